@@ -15,7 +15,7 @@ grep -v '^\(bridge\|run_table\|leaf_table\|base_rows\):' "$here/crates.txt" > "$
 for crate in $(sed 's/:.*//' "$work/ours/crates.txt"); do
     cp -r "$here/crates/$crate" "$work/ours/crates/"
 done
-echo 'again: bridge_io bridge_steps exact_time iso_time live_judge live_meaning live_session mpd_rules url_parts' >> "$work/ours/crates.txt"
+echo 'again: bridge_ends bridge_io bridge_steps exact_time iso_time live_judge live_meaning live_session mpd_rules url_parts' >> "$work/ours/crates.txt"
 again=$work/ours/crates/again
 mkdir -p "$again/src" "$again/proofs/main"
 cat > "$again/src/main.rt" <<'RS'
@@ -27,7 +27,8 @@ ghost use Rattle.iso_time.specs.Instant.{IsReadable};
 ghost use Rattle.live_meaning.specs.Laws.{IsTyped};
 ghost use Rattle.mpd_rules.specs.Views.{segments_mpd};
 
-use bridge_io::{FolderStore, Ledger, Name, OutFault, Steps, Store, slurp};
+use bridge_ends::FolderStore;
+use bridge_io::{Ledger, Name, OutFault, Steps, Store, slurp};
 use bridge_steps::values_of;
 use exact_time::Digits;
 use iso_time::Instant;

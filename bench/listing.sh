@@ -11,7 +11,7 @@ work=$(mktemp -d)
 trap 'rm -rf "$work"' EXIT
 
 mkdir -p "$work/ours/crates"
-for crate in bridge_io exact_time template_ids url_parts timeline; do
+for crate in bridge_io exact_time template_ids url_parts mpd_entries timeline; do
     cp -r "$here/crates/$crate" "$work/ours/crates/"
     rm -rf "$work/ours/crates/$crate/out"
     grep "^$crate:" "$here/crates.txt" >> "$work/ours/crates.txt"

@@ -24,17 +24,18 @@ PY
 
 # Ours: a program beside copies of the libraries.
 mkdir -p "$work/ours/crates"
-for crate in bridge_io byte_scan exact_time url_parts hls_lines hls_media; do
+for crate in bridge_io bridge_ends byte_scan exact_time url_parts hls_lines hls_media; do
     cp -r "$here/crates/$crate" "$work/ours/crates/"
     grep "^$crate:" "$here/crates.txt" >> "$work/ours/crates.txt"
 done
-echo 'reads: bridge_io hls_media url_parts' >> "$work/ours/crates.txt"
+echo 'reads: bridge_ends bridge_io hls_media url_parts' >> "$work/ours/crates.txt"
 mkdir -p "$work/ours/crates/reads/src"
 cat > "$work/ours/crates/reads/src/main.rt" <<'RS'
 //! Reads a playlist.
 #![tactic(auto)]
 
-use bridge_io::{FolderStore, Name, slurp};
+use bridge_ends::FolderStore;
+use bridge_io::{Name, slurp};
 use hls_media::read_media;
 use std::process::ExitCode;
 use url_parts::Base;

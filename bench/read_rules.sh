@@ -24,18 +24,19 @@ mpd("ids", ' type="dynamic" availabilityStartTime="2024-01-01T00:00:00Z"', "".jo
 PY
 
 mkdir -p "$work/ours/crates"
-for crate in bridge_io byte_scan exact_time iso_time url_parts mpd_values mpd_text mpd_profile mpd_levels mpd_rules; do
+for crate in bridge_io bridge_ends byte_scan exact_time iso_time url_parts mpd_entries mpd_values mpd_tree mpd_text mpd_profile mpd_levels mpd_rules; do
     cp -r "$here/crates/$crate" "$work/ours/crates/"
     rm -rf "$work/ours/crates/$crate/out"
     grep "^$crate:" "$here/crates.txt" >> "$work/ours/crates.txt"
 done
-echo 'judges: bridge_io mpd_rules mpd_text' >> "$work/ours/crates.txt"
+echo 'judges: bridge_ends bridge_io mpd_rules mpd_text' >> "$work/ours/crates.txt"
 mkdir -p "$work/ours/crates/judges/src"
 cat > "$work/ours/crates/judges/src/main.rt" <<'RS'
 //! Reads the tree of a file. With the word `rules` it then judges it by the rules.
 #![tactic(auto)]
 
-use bridge_io::{FolderStore, Name, slurp};
+use bridge_ends::FolderStore;
+use bridge_io::{Name, slurp};
 use mpd_rules::rules;
 use mpd_text::read_tree;
 use std::env;

@@ -1,5 +1,5 @@
 #!/usr/bin/env bash
-# Times the reading of an MPD of 8 MB with 200,000 S elements: mpd_text's `Tree::from_bytes`, the Rust crate roxmltree 0.16 and
+# Times the reading of an MPD of 8 MB with 200,000 S elements: mpd_text's `tree_from_bytes`, the Rust crate roxmltree 0.16 and
 # libxml2's tree; and the first with a walk behind it that asks each S for its `t`, `d` and `r` with their places. Each is a program of its
 # own that reads the file; the shortest of eleven runs counts, with its largest memory.
 #
@@ -20,15 +20,20 @@ PY
 
 # Ours: a program beside copies of the libraries.
 mkdir -p "$work/ours/crates"
-cp -r "$here/crates/bridge_io" "$here/crates/byte_scan" "$here/crates/mpd_text" "$work/ours/crates/"
-printf 'bridge_io: itoa thiserror\nbyte_scan:\nmpd_text: bridge_io byte_scan memchr thiserror\nreads: bridge_io mpd_text\n' > "$work/ours/crates.txt"
+for crate in bridge_io bridge_ends byte_scan mpd_tree mpd_text; do
+    cp -r "$here/crates/$crate" "$work/ours/crates/"
+    grep "^$crate:" "$here/crates.txt" >> "$work/ours/crates.txt"
+done
+echo 'reads: bridge_ends bridge_io mpd_text mpd_tree' >> "$work/ours/crates.txt"
 mkdir -p "$work/ours/crates/reads/src"
 cat > "$work/ours/crates/reads/src/main.rt" <<'RS'
 //! Reads the tree of a file. With the word `walk` it then asks each element of the timeline for its attributes.
 #![tactic(auto)]
 
-use bridge_io::{FolderStore, Name, slurp};
-use mpd_text::{Node, Tree};
+use bridge_ends::FolderStore;
+use bridge_io::{Name, slurp};
+use mpd_text::tree_from_bytes;
+use mpd_tree::Node;
 use std::env;
 use std::process::ExitCode;
 
@@ -74,7 +79,7 @@ fn main(rt: HostRuntime) -> ExitCode {
     let Ok(bytes) = slurp(alloc, &mut store, &name, 8_388_608) else {
         return ExitCode::from(1);
     };
-    match Tree::from_bytes(alloc, bytes) {
+    match tree_from_bytes(alloc, bytes) {
         Ok(tree) if is_walk && walk(&tree) == 0 => ExitCode::from(1),
         Ok(_) => ExitCode::from(0),
         Err(_) => ExitCode::from(1),

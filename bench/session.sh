@@ -16,7 +16,7 @@ for crate in $(sed 's/:.*//' "$work/ours/crates.txt"); do
     cp -r "$here/crates/$crate" "$work/ours/crates/"
     rm -rf "$work/ours/crates/$crate/out"
 done
-echo 'sessions: bridge_io bridge_steps exact_time iso_time live_meaning live_session mpd_rules presentation url_parts' >> "$work/ours/crates.txt"
+echo 'sessions: bridge_ends bridge_io bridge_steps exact_time iso_time live_meaning live_session mpd_presentation mpd_rules presentation url_parts' >> "$work/ours/crates.txt"
 sessions=$work/ours/crates/sessions
 mkdir -p "$sessions/src" "$sessions/proofs/main"
 cat > "$sessions/src/main.rt" <<'RS'
@@ -28,11 +28,13 @@ ghost use Rattle.iso_time.specs.Instant.{IsReadable};
 ghost use Rattle.live_meaning.specs.Laws.{IsTyped};
 ghost use Rattle.mpd_rules.specs.Views.{segments_mpd};
 
-use bridge_io::{Bytes, FolderStore, Ledger, Name, Steps, slurp};
+use bridge_ends::FolderStore;
+use bridge_io::{Bytes, Ledger, Name, Steps, slurp};
 use bridge_steps::values_of;
 use exact_time::Digits;
 use iso_time::Instant;
 use live_session::Session;
+use mpd_presentation::from_mpd;
 use mpd_rules::Mpd;
 use presentation::Presentation;
 use std::alloc::Global;
@@ -129,7 +131,7 @@ impl Followed {
         for count in 0..times {
             let mpd = values(self.alloc, bytes)?;
             let now = instant(count.saturating_add(1));
-            Presentation::from_mpd(self.alloc, &mpd, &self.base, Some(now)).ok()?;
+            from_mpd(self.alloc, &mpd, &self.base, Some(now)).ok()?;
         }
         Some(())
     }

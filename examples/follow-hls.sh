@@ -6,6 +6,8 @@
 set -euo pipefail
 base=$1 master=$2 live=$3 seconds=$4 polls=$5
 mkdir -p "$live"
+exec {lock}> "$live.lock"
+flock -n "$lock" || { echo "another one serves $live" >&2; exit 1; }
 fetched=$(mktemp -d)
 trap 'rm -rf "$fetched"' EXIT
 

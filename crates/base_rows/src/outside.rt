@@ -1,4 +1,5 @@
 // What no clause says: that calls succeed, and what the operating system does.
+use bridge_ends::*;
 use bridge_io::*;
 use std::alloc::Global;
 use std::env;

@@ -4,12 +4,16 @@
 ghost use Rattle.std.specs.Prelude.{◌≡◌, ◌<◌};
 
 use bridge_core::{Status, bridge};
-use bridge_io::{FolderStore, Ledger, NoMemory, Sequence, StdSink, StdSource, Steps, Text};
+use bridge_ends::{FolderStore, StdSink, StdSource};
+use bridge_io::{Ledger, NoMemory, Sequence, Steps, Text};
+use std::env::FillError;
+use std::fs::File;
 use std::io::ErrorKind;
 use std::marker::Brand;
 use std::process::ExitCode;
+use std::rt::Env;
 use std::sync::ledger::Blank;
-use std::{env, io};
+use std::{env, fs, io};
 
 fn main(rt: HostRuntime) -> ExitCode {
     let status = start::<Brand>(rt, Blank::new(1)).unwrap_or(Status::Memory);
@@ -23,6 +27,7 @@ fn start<L: Ledger>(rt: HostRuntime, blank: Blank) -> Result<Status, NoMemory>
     requires some { 0 < blank.parts }
 {
     let alloc = rt.alloc();
+    let _held = held_descriptors(&rt);
     let words = words(&rt)?;
     let mut input = StdSource::new(rt.reader());
     let mut store = FolderStore::new(rt, alloc, ".")?;
@@ -38,16 +43,47 @@ fn start<L: Ledger>(rt: HostRuntime, blank: Blank) -> Result<Status, NoMemory>
     ))
 }
 
+/// Three descriptors of nothing, which take the places of standard input, output and error where these are closed, so that no
+/// file that is opened later is taken for one of them.
+fn held_descriptors(rt: &HostRuntime) -> [io::Result<File>; 3] {
+    [
+        fs::open(rt, NOTHING),
+        fs::open(rt, NOTHING),
+        fs::open(rt, NOTHING),
+    ]
+}
+
+/// The file that has no bytes and takes none where it is open for reading.
+const NOTHING: &str = "/dev/null";
+
 /// The command's words without the program's own name. There are none, which is no job, where one isn't UTF-8.
 fn words(rt: &HostRuntime) -> Result<Sequence<Text>, NoMemory> {
     let mut words = Sequence::new(rt.alloc());
-    let given = match env::args(rt) {
+    let given = match env::args(&(WithoutName(rt), rt.alloc())) {
         Ok(given) => given,
         Err(error) if error.kind() == ErrorKind::OutOfMemory => return Err(NoMemory),
         Err(_) => return Ok(words),
     };
-    for word in given.skip(1) {
+    for word in given {
         words.push(Text::from(word))?;
     }
     Ok(words)
+}
+
+/// The environment with the words behind the program's own name, which may be any bytes.
+#[derive(Drop)]
+struct WithoutName<'a>(&'a HostRuntime);
+
+impl Env for WithoutName<'_> {
+    fn arg(&self, i: usize, buf: &mut [u8]) -> Result<usize, FillError> {
+        self.0.arg(i.saturating_add(1), buf)
+    }
+
+    fn var(&self, name: &str, buf: &mut [u8]) -> Result<usize, FillError> {
+        self.0.var(name, buf)
+    }
+
+    fn var_at(&self, i: usize, buf: &mut [u8]) -> Result<usize, FillError> {
+        self.0.var_at(i, buf)
+    }
 }

@@ -1,7 +1,8 @@
 -- What `check` promises, from what its parts say.
 use Rattle.bridge_jobs.specs.declared.jobs.Job.TheVariants as jobs
 use Rattle.bridge_courses.specs.declared.status.Verdict.TheVariants as verdict
-use Rattle.std.proofs.Common.{◌≡◌, ◌^◌, ℕ, List, IsTrue, Option, None, Some, IfSome, option_map, Result, Ok, Err, refl, sym, ◌∙◌, ap, subst}
+use Rattle.std.proofs.Common.{◌≡◌, ◌^◌, ℕ, List, IsTrue, Option, None, Some, IfSome, option_map, Result, Ok, Err, refl, sym, ◌∙◌, ap}
+use Rattle.std.proofs.Common.{subst}
 use Rattle.std.specs.Prelude.{◌↔◌}
 use Rattle.bridge_io.proofs.AndThen.{steps_of}
 use Rattle.bridge_io.specs.{Names.is_name, Outside.Files}
@@ -9,7 +10,8 @@ use Rattle.bridge_jobs.specs.declared.jobs.CheckJob.{CheckJob}
 use Rattle.laws_of_mpds.specs.{PresentedFiles.PresentedMeanTheirFiles, Written.ReadHaveRates}
 use Rattle.meaning.specs.{Differences.first_difference, Meanings.Meaning, Same.Agrees, declared.difference.Difference.Difference}
 use Rattle.presentation.proofs.Filling.{ok_under}
-use Rattle.presentation.specs.{MeaningLaws.TextsAreMeant, Meanings.{dash_meaning, meaning_of}, Presented.Presented, Told.presented_of}
+use Rattle.presentation.specs.{Meanings.meaning_of, Presented.Presented}
+use Rattle.mpd_presentation.specs.{MeaningLaws.TextsAreMeant, Meanings.dash_meaning, Told.presented_of}
 use Rattle.bridge_courses.specs.{Courses.Course, Laws.VerdictKeepsSteps, declared.status.Verdict.Verdict}
 use Rattle.bridge_report.specs.{Outcomes.{base_refused, course_by, outcome_told}, Reading.{Named, content_of}}
 use Rattle.bridge_report.specs.declared.refusal.Refusal.TheVariants.{NotStatic}

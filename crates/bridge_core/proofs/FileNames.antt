@@ -13,8 +13,9 @@ use Rattle.laws_of_playlists.specs.SameFiles.{AreWritten, master_name}
 use Rattle.live_meaning.specs.{States.{State, Track}, Playlists.{FollowedPlaylist, live_text, playlist_of as followed_of, playlist_with}}
 use Rattle.laws_of_reloads.specs.First.{HoldState}
 use Rattle.live_session.specs.Sessions.{text_of}
-use Rattle.bridge_steps.specs.{LiveMpds.live_files, Playlists.playlists}
-use Rattle.bridge_steps.proofs.LiveFiles.{files_first}
+use Rattle.bridge_steps.specs.Playlists.{playlists}
+use Rattle.bridge_live.specs.LiveMpds.{live_files}
+use Rattle.bridge_live.proofs.LiveFiles.{files_first}
 
 -- ---- one file
 

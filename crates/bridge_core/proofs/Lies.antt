@@ -3,8 +3,7 @@ use Rattle.std.proofs.Common.{◌≡◌, ◌&&◌, ℕ, List, ◌++◌, length, 
 use Rattle.std.proofs.{Common.{sym, ◌∙◌, ap, subst}, lemmas.Bool.cases_Bool}
 use Rattle.std.specs.{Prelude.{is_some, nat_lt, true}, Option.option_and_then}
 use Rattle.bridge_io.proofs.Texts.{same_bytes}
-use Rattle.bridge_io.specs.{Outside.Files, Slurped.{whole_file, within}}
-use Rattle.presentation.specs.Told.{told_as}
+use Rattle.bridge_io.specs.{Outside.Files, Slurped.{whole_file, within}, Answer.told_as}
 use Rattle.presentation.proofs.Filling.{ok_under}
 use Rattle.url_parts.specs.Addresses.{absolute}
 use Rattle.bridge_report.specs.{Bases.{file_url, folder_url, if_written_so, is_folder, own_address}, Reading.{content_of, manifest_limit}}

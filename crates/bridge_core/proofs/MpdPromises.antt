@@ -7,7 +7,7 @@ use Rattle.std.proofs.{Common.{refl, sym, ◌∙◌, ap, subst, append_assoc, ar
 use Rattle.std.proofs.lemmas.List.Elements.{All-nil, All-cons, All-head, All-tail}
 use Rattle.std.specs.{Prelude.{codes, nat_lt}, Option.option_and_then}
 use Rattle.bridge_io.proofs.AndThen.{steps_of}
-use Rattle.bridge_io.specs.{Answer.and_then, InOrder.put_all, Names.is_name, Outside.Files}
+use Rattle.bridge_io.specs.{Answer.{and_then, told_as}, InOrder.put_all, Names.is_name, Outside.Files}
 use Rattle.exact_time.specs.Time.{IsSame}
 use Rattle.url_parts.specs.Addresses.{local_name_of}
 use Rattle.hls_media.specs.{Laws.{IsBounded as IsBoundedMedia, ReadIsBounded}, Media.media_of, declared.media.Media.Media}
@@ -15,25 +15,25 @@ use Rattle.hls_master.specs.{declared.track.MasterTrack.MasterTrack, Masters.mas
 use Rattle.hls_master.specs.Tracks.{TrackValue}
 use Rattle.hls_presentation.specs.Presenting.{hls_presented_of}
 use Rattle.hls_meaning.specs.Meanings.{file_at}
-use Rattle.bridge_jobs.specs.declared.jobs.MasterJob.{MasterJob}
-use Rattle.laws_of_mpds.specs.{PresentedFiles.{ArePlaylists, IsMaster, IsPlaylist, PresentedMeanTheirFiles}, Written.HaveAddresses}
-use Rattle.laws_of_mpds.specs.Written.{ReadHaveAddresses, ReadHaveRates, ReadMeanTheSame, TracksAreOfBytes}
+use Rattle.bridge_jobs.specs.{declared.jobs.MasterJob.MasterJob, Laws.in_folder}
+use Rattle.laws_of_mpds.specs.PresentedFiles.{ArePlaylists, IsMaster, IsPlaylist, PresentedMeanTheirFiles}
+use Rattle.laws_of_mpds.specs.Written.{HaveAddresses, ReadHaveAddresses, ReadHaveRates, ReadMeanTheSame, TracksAreOfBytes}
 use Rattle.meaning.specs.Same.{IsSameTime}
 use Rattle.meaning.proofs.SameLemmas.{Same-wider}
-use Rattle.presentation.specs.{Presented.Presented, Scales.rate_of, Told.told_as, Meanings.meaning_of}
+use Rattle.presentation.specs.{Presented.Presented, Meanings.meaning_of, Ratios.rate_of}
 use Rattle.presentation.proofs.Filling.{ok_under}
 use Rattle.laws_of_playlists.proofs.SameFolders.{file_under}
-use Rattle.bridge_report.specs.{Reading.{content_of, media_at, media_in}, Outcomes.course_by}
-use Rattle.bridge_playlists.specs.{declared.medias.Medias.Medias, declared.place.StorePlace.StorePlace, Playlists.{master_in, media_named}}
-use Rattle.bridge_playlists.specs.Playlists.{media_under, medias_of, medias_with, none_read, presented_at, presented_by, presented_with}
-use Rattle.bridge_playlists.specs.{Playlists.{segment_limit, track_kept, tracks_of, with_media, within_limit}, Places.store_place_of}
-use Rattle.bridge_jobs.specs.Laws.{in_folder}
+use Rattle.bridge_report.specs.Reading.{content_of, media_at, media_in}
+use Rattle.bridge_playlists.specs.{declared.medias.Medias.Medias, declared.place.StorePlace.StorePlace}
+use Rattle.bridge_playlists.specs.Playlists.{master_in, media_named, media_under, medias_of, medias_with, none_read, presented_at}
+use Rattle.bridge_playlists.specs.Playlists.{presented_by, presented_with, segment_limit, track_kept, tracks_of, with_media, within_limit}
+use Rattle.bridge_playlists.specs.Places.{store_place_of}
 use Rattle.bridge_courses.specs.{Courses.{Course, World, files_of as course_files}, Laws.{DoneIsWhole, VerdictKeepsSteps}}
 use Rattle.bridge_courses.specs.Executions.{IsExecution}
 use Rattle.dash_writer.specs.Manifest.{manifest_text}
 use Rattle.bridge_steps.specs.Done.{done_line}
-use Rattle.bridge_core.specs.{Courses.{course_of, course_of_job, outcome_of_job}, Dash.{dash_outcome, files_of, outcome_of}}
-use Rattle.bridge_core.specs.{Promises.{MpdMeansTheSame, WrittenMpdMeansThePlaylists}}
+use Rattle.bridge_core.specs.{Courses.{course_of, course_of_job}, Dash.{dash_outcome, files_of, outcome_of}}
+use Rattle.bridge_core.specs.Promises.{MpdMeansTheSame, WrittenMpdMeansThePlaylists}
 use Rattle.laws_of_playlists.specs.Origins.{OwnTextsAreAddresses}
 use Rattle.bridge_core.proofs.{Asked.{IsBounded, bounded as bounded_words}, FileNames.put_there, DoneAt.{IsDoneAt, done_at}}
 use Rattle.bridge_core.proofs.Lies.{content_read, in_folder_is, lies_of}

@@ -8,15 +8,15 @@ use Rattle.std.proofs.{lemmas.List.{append-nil, take_more, length-map}, lemmas.L
 use Rattle.std.proofs.{lemmas.List.Folds.list_all-append, lemmas.List.FromFn.length-range_with_len, lemmas.Str.IsUtf8-from_is_utf8}
 use Rattle.std.specs.{Prelude.{nat_le, nat_lt, ◌==◌, slice_index}, List.{list_all, list_any}, Str.is_utf8}
 use Rattle.bridge_io.proofs.AndThen.{steps_of}
-use Rattle.bridge_io.specs.{InOrder.put_all, Names.is_name, Outside.Files}
+use Rattle.bridge_io.specs.{InOrder.put_all, Names.is_name, Outside.Files, Answer.told_as}
 use Rattle.bridge_jobs.specs.{Jobs.is_folder, Laws.FoldersHoldTheirFiles, declared.jobs.HlsJob.HlsJob}
 use Rattle.bridge_courses.specs.{Courses.{Course, World, files_of as course_files}, Laws.{DoneIsWhole, VerdictKeepsSteps}}
 use Rattle.bridge_courses.specs.Executions.{IsExecution}
-use Rattle.mpd_text.specs.{Meaning.reading_of, Trees.Element, declared.fault.TextFault.TextFault}
+use Rattle.mpd_tree.specs.{Meaning.reading_of, Trees.Element, declared.fault.TextFault.TextFault}
 use Rattle.laws_of_mpds.proofs.Bytes.{all_bytes, utf8_bytes}
 use Rattle.presentation.proofs.Filling.{ok_under}
-use Rattle.presentation.specs.{Counting.tracks_of, MeaningLaws.TextsAreMeant, Meanings.{dash_meaning, meaning_of}, Presented.Presented}
-use Rattle.presentation.specs.Told.{presented_of, told_as}
+use Rattle.presentation.specs.{Counting.tracks_of, Meanings.meaning_of, Presented.Presented}
+use Rattle.mpd_presentation.specs.{MeaningLaws.TextsAreMeant, Meanings.dash_meaning, Told.presented_of}
 use Rattle.url_parts.specs.Addresses.{IsAddress, folder_of, is_tail}
 use Rattle.laws_of_playlists.proofs.SameFolders.{no_tail, own_with_slash}
 use Rattle.hls_meaning.specs.Meanings.{hls_meaning}
@@ -27,13 +27,16 @@ use Rattle.live_meaning.specs.{States.{State, shown, track_of}, Refusals.begun_o
 use Rattle.laws_of_reloads.specs.{First.FirstFilesMeanTheSame, Laws.{IsFollowed, IsRead, IsReadIfAny}}
 use Rattle.laws_of_reloads.proofs.FirstFiles.{begun_is}
 use Rattle.bridge_report.specs.{Bases.{ends_in_slash, is_folder as is_base}, Reading.{content_of, of_file}}
-use Rattle.bridge_core.specs.{Courses.{course_of, course_of_job}, Hls.{Live, Static, Translation, files_of, hls_outcome, line_of}}
-use Rattle.bridge_core.specs.Hls.{live_translation, outcome_of, static_translation, terms_at, translation_at, translation_by}
-use Rattle.bridge_core.specs.{Hls.translation_of, Promises.{MeansTheSame, WrittenMeansTheMpd}}
+use Rattle.bridge_core.specs.Courses.{course_of, course_of_job}
+use Rattle.bridge_core.specs.Hls.{Live, Static, Translation, files_of, hls_outcome, line_of, live_translation, outcome_of}
+use Rattle.bridge_core.specs.Hls.{static_translation, terms_at, translation_at, translation_by, translation_of}
+use Rattle.bridge_core.specs.Promises.{MeansTheSame, WrittenMeansTheMpd}
 use Rattle.bridge_playlists.specs.{declared.place.StorePlace.StorePlace, Places.store_place_of}
-use Rattle.bridge_steps.specs.{LiveMpds.{live_files, told_of}, Manifests.{ready_of, values_of}, Playlists.playlists}
-use Rattle.bridge_core.proofs.{Asked.{IsBounded, bounded}, FileNames.{are_written, first_written}, DoneAt.{IsDoneAt, done_at}, Lies.Lies}
-use Rattle.bridge_core.proofs.Lies.{content_read, lies_of}
+use Rattle.bridge_steps.specs.Manifests.{ready_of, values_of}
+use Rattle.bridge_steps.specs.Playlists.{playlists}
+use Rattle.bridge_live.specs.LiveMpds.{live_files, told_of}
+use Rattle.bridge_core.proofs.{Asked.{IsBounded, bounded}, FileNames.{are_written, first_written}, DoneAt.{IsDoneAt, done_at}}
+use Rattle.bridge_core.proofs.Lies.{Lies, content_read, lies_of}
 use Rattle.bridge_steps.proofs.Static.{IsSpelled, IsStatic, spelled_of, static_ready}
 
 not_true : (b : Bool) → IsTrue (not b) → b ≡ false

@@ -4,7 +4,8 @@ use Rattle.bridge_jobs.specs.declared.jobs.FollowJob.{FollowJob}
 use Rattle.bridge_courses.specs.Courses.{Course}
 use Rattle.bridge_playlists.specs.{declared.place.StorePlace.StorePlace, Places.store_place_of}
 use Rattle.live_meaning.specs.Updates.{Terms}
-use Rattle.bridge_steps.specs.{Follow.{course_placed, follow_course}, LiveMpds.{followed_mpd, frame_stream}}
+use Rattle.bridge_steps.specs.Follow.{course_placed, follow_course}
+use Rattle.bridge_live.specs.LiveMpds.{followed_mpd, frame_stream}
 
 abbrev pub terms_at : FollowJob → StorePlace → Terms
 terms_at job place = record { url = place.url; digits = job.digits }

@@ -1,16 +1,18 @@
 -- From an MPD to playlists.
 use Rattle.bridge_report.specs.declared.refusal.Refusal.TheVariants as refusal
 use Rattle.bridge_core.specs.declared.hls.Translation.TheVariants as held
+use Rattle.bridge_core.specs.declared.hls.Translation.{Translation as Held}
 use Rattle.std.specs.Prelude.{ℕ, ℤ, ◌^◌, List, if◌then◌else◌, Option, Some, None, option_map, Result, Ok, Err}
-use Rattle.bridge_io.specs.{Answer.and_then, Outside.Files}
-use Rattle.presentation.specs.{Presented.Presented, Told.told_as, declared.fault.PresentationFault.TheVariants.NeedsNow}
+use Rattle.bridge_io.specs.{Answer.{and_then, told_as}, Outside.Files}
+use Rattle.presentation.specs.{Presented.Presented, declared.fault.PresentationFault.TheVariants.NeedsNow}
 use Rattle.live_meaning.specs.{Refusals.begun_of, States.State, Updates.{Terms, Values}}
 use Rattle.bridge_jobs.specs.declared.jobs.HlsJob.{HlsJob}
 use Rattle.bridge_report.specs.{declared.refusal.Refusal.Refusal, Outcomes.Outcome, Reading.{Named, content_of, of_file}}
 use Rattle.bridge_playlists.specs.{declared.place.StorePlace.StorePlace, Places.store_place_of}
-use Rattle.bridge_steps.specs.{Done.done_line, Endings.{outcome_written, placed}, LiveMpds.{live_files, told_of}, Manifests.ready_of}
-use Rattle.bridge_steps.specs.{Manifests.values_of, Playlists.playlists}
-use Rattle.bridge_core.specs.{declared.hls.Translation.Translation as Held}
+use Rattle.bridge_steps.specs.Done.{done_line}
+use Rattle.bridge_steps.specs.Endings.{outcome_written, placed}
+use Rattle.bridge_live.specs.LiveMpds.{live_files, told_of}
+use Rattle.bridge_steps.specs.{Manifests.{ready_of, values_of}, Playlists.playlists}
 
 -- What is written: of a static MPD its presentation, with so many decimals; of a live one what it leaves as a first frame.
 pub data Translation : Type 0 where

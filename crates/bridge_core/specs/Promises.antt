@@ -3,16 +3,15 @@ use Rattle.bridge_jobs.specs.declared.jobs.Job.TheVariants as jobs
 use Rattle.bridge_courses.specs.declared.status.Status.TheVariants as status
 use Rattle.std.specs.Prelude.{◌≡◌, ℕ, ℤ, ◌^◌, List, ◌++◌, codes, Option, Some, None}
 use Rattle.bridge_io.specs.Outside.{Files}
-use Rattle.bridge_jobs.specs.{Jobs.job_of, Laws.in_folder}
-use Rattle.bridge_jobs.specs.declared.jobs.{CheckJob.CheckJob, HlsJob.HlsJob, MasterJob.MasterJob}
+use Rattle.bridge_jobs.specs.{Jobs.job_of, Laws.in_folder, declared.jobs.CheckJob.CheckJob, declared.jobs.HlsJob.HlsJob}
+use Rattle.bridge_jobs.specs.declared.jobs.MasterJob.{MasterJob}
 use Rattle.bridge_courses.specs.{Courses.{Course, World}, Executions.IsExecution}
 use Rattle.hls_meaning.specs.Meanings.{hls_meaning}
 use Rattle.meaning.specs.{Meanings.Meaning, Differences.first_difference, Same.{Agrees, SameExact, SameFloor}}
 use Rattle.meaning.specs.declared.difference.Difference.{Difference}
-use Rattle.presentation.specs.Meanings.{dash_meaning}
+use Rattle.mpd_presentation.specs.Meanings.{dash_meaning}
 use Rattle.bridge_playlists.specs.{declared.place.StorePlace.StorePlace, Places.store_place_of}
-use Rattle.bridge_core.specs.Check.{differ_line}
-use Rattle.bridge_core.specs.Courses.{course_of}
+use Rattle.bridge_core.specs.{Check.differ_line, Courses.course_of}
 use Rattle.bridge_report.specs.Bases.{file_url}
 
 -- where the master lies

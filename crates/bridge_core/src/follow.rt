@@ -7,7 +7,8 @@ ghost use Rattle.bridge_core.specs.Follow as spec;
 use bridge_courses::Ending;
 use bridge_io::{Ledger, Sink, Source, Steps, Store};
 use bridge_jobs::FollowJob;
-use bridge_steps::{LiveMpd, follow, place_in};
+use bridge_live::LiveMpd;
+use bridge_steps::{follow, place_in};
 use std::alloc::Global;
 
 /// Works off the frames of the input: each accepted one's playlists are written, and each one has a line.

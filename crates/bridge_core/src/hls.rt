@@ -16,12 +16,10 @@ ghost use Rattle.bridge_core.specs.Hls as spec;
 use bridge_courses::Ending;
 use bridge_io::{Bytes, Ledger, Name, NoMemory, Steps, Store, Text};
 use bridge_jobs::HlsJob;
+use bridge_live::{begin_session, write_live_files};
 use bridge_playlists::StorePlace;
 use bridge_report::{Halt, Refusal, Stop, content_of, halted};
-use bridge_steps::{
-    Ready, begin_session, done_line, place_in, ready_of, values_of, write_live_files,
-    write_playlists, written,
-};
+use bridge_steps::{Ready, done_line, place_in, ready_of, values_of, write_playlists, written};
 use hls_writer::OutFault;
 use live_session::Session;
 use mpd_rules::Mpd;

@@ -18,7 +18,7 @@ use laws_of_playlists::{
 };
 use laws_of_reloads::first_files_mean_the_same;
 use meaning::agreeing_has_no_difference;
-use presentation::presentations_mean_what_they_list;
+use mpd_presentation::presentations_mean_their_mpd;
 
 /// Where a run of `hls` is done, the master and the playlists that it wrote mean what the MPD means, a live one at the job's
 /// instant: the same tracks, addresses and ranges in order, and each time rounded down to the unit of the printed durations
@@ -30,7 +30,7 @@ pub fn what_is_written_means_the_mpd()
     a_verdict_keeps_the_steps();
     folders_hold_their_files();
     tracks_mean_the_same();
-    presentations_mean_what_they_list();
+    presentations_mean_their_mpd();
     written_means_the_same();
     first_files_mean_the_same();
     read_trees_are_of_bytes();
@@ -76,7 +76,7 @@ pub fn what_is_checked_agrees()
     ensures differ { DifferIsApart }
 {
     a_verdict_keeps_the_steps();
-    presentations_mean_what_they_list();
+    presentations_mean_their_mpd();
     read_tracks_can_be_written();
     presented_mean_their_files();
     agreeing_has_no_difference();

@@ -125,8 +125,25 @@ fn run_job<I: Source, F: Store, P: Sink, L: Ledger>(
     match job {
         Job::Follow(job) => follow::run(alloc, job, input, store, report, steps),
         Job::FollowHls(job) => run_follow_hls(alloc, job, input, store, report, steps),
-        other => run_command(alloc, &other, store, steps),
+        other => run_owned(alloc, other, store, steps),
     }
+}
+
+/// The same of a job that is handed over.
+fn run_owned<F: Store, L: Ledger>(
+    alloc: Global,
+    job: Job,
+    store: &mut F,
+    steps: &mut Steps<L>,
+) -> Ending
+    requires readable { HasReadableNow job }
+    requires other { Follows (Some job) → ⊥ }
+    ensures { JobEndsAs (outcome_of_job (Some job) (F.files store.old)) result
+        (around F.Store store.old steps.old) (around F.Store store.new steps.new) }
+{
+    let ending = run_command(alloc, &job, store, steps);
+    drop(job);
+    ending
 }
 
 /// Runs a command that reads all before it writes, and leaves the input and the report.

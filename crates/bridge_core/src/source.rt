@@ -22,7 +22,7 @@ const PERIOD: &str = "<Period id=\"0\">\n";
 const TAIL: &str = "</Period>\n</MPD>\n";
 
 /// A set of tracks.
-#[derive(Clone, Copy, Debug, PartialEq, Eq)]
+#[derive(Clone, Copy, PartialEq, Eq)]
 pub enum Side {
     /// Four video tracks.
     Video,

@@ -6,7 +6,7 @@ use crate::{Status, Verdict};
 use bridge_io::{Fail, Sink, Text};
 
 /// How the work of a run ends.
-#[derive(Debug, Drop)]
+#[derive(Drop)]
 pub enum Ending {
     /// As a verdict says, with the last lines of the report.
     Ended(Verdict, Text),

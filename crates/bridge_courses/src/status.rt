@@ -4,7 +4,7 @@ ghost use Rattle.bridge_courses.specs.Statuses.{number_of};
 ghost use Rattle.bridge_courses.specs.Executions.{status_by};
 
 /// How a run ends. The program exits with the status's number.
-#[derive(Clone, Copy, Debug, PartialEq, Eq)]
+#[derive(Clone, Copy, PartialEq, Eq)]
 pub enum Status {
     /// The job was done: its files and the whole report are written.
     Done,
@@ -32,7 +32,7 @@ impl Status {
 }
 
 /// How a run ends that no fault and no want of memory ends.
-#[derive(Clone, Copy, Debug, PartialEq, Eq)]
+#[derive(Clone, Copy, PartialEq, Eq)]
 pub enum Verdict {
     /// The job was done.
     Done,

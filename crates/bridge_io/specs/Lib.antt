@@ -2,14 +2,12 @@ pub mod Adding
 pub mod Answer
 pub mod Fault
 pub mod Firsts
-pub mod InMemory
 pub mod InOrder
 pub mod Names
 pub mod OutFaults
 pub mod Outside
 pub mod Pieces
 pub mod Places
-pub mod Schedule
 pub mod Slurped
 pub mod Texts
 pub mod Written

@@ -12,7 +12,7 @@ const PIECE: usize = 4096;
 
 /// A file that is written from its start on. What is pushed is held back, and comes to the file's end in pieces of 1 to
 /// 4,096 bytes.
-#[derive(Debug, Drop)]
+#[derive(Drop)]
 pub struct FileWriter<'a> {
     name: &'a Name,
     held: Vec<u8>,

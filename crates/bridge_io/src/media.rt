@@ -13,7 +13,7 @@ pub enum Kind {
 }
 
 /// The size of a picture (ISO/IEC 23009-1, 5.3.7.2; RFC 8216, 4.3.4.2).
-#[derive(Clone, Copy, Debug, PartialEq, Eq)]
+#[derive(Clone, Copy, PartialEq, Eq)]
 pub struct Size {
     /// In pixels.
     pub width: u32,
@@ -22,7 +22,7 @@ pub struct Size {
 }
 
 /// The fraction n/m, as a frame rate is told: frames a second (ISO/IEC 23009-1, 5.3.7.2).
-#[derive(Clone, Copy, Debug, PartialEq, Eq)]
+#[derive(Clone, Copy, PartialEq, Eq)]
 pub struct Ratio {
     /// How many frames there are in m seconds.
     pub n: u32,

@@ -8,7 +8,7 @@ use std::marker::Model;
 use std::slice;
 
 /// Members in order.
-#[derive(Debug, Drop)]
+#[derive(Drop)]
 pub struct Sequence<T> {
     members: Vec<T>,
 }

@@ -22,7 +22,7 @@ const MAX_HEADER: usize = 64;
 const MAX_FRAMES: u64 = 10_000_000;
 
 /// One frame of a followed presentation.
-#[derive(Debug, Drop)]
+#[derive(Drop)]
 pub enum Frame {
     /// A new version of the MPD.
     Mpd {
@@ -46,7 +46,7 @@ pub enum Frame {
 }
 
 /// Where a next frame may begin in a stream.
-#[derive(Clone, Copy, Debug, PartialEq, Eq)]
+#[derive(Clone, Copy, PartialEq, Eq)]
 pub struct FramePos {
     /// The place behind the frames so far.
     pub place: Place,

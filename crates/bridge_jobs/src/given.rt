@@ -5,7 +5,7 @@ use bridge_io::{NameFault, NoMemory};
 use std::alloc::AllocError;
 
 /// Why words give no job.
-#[derive(Clone, Copy, Debug)]
+#[derive(Clone, Copy)]
 pub(crate) enum WordsFault {
     /// They are none.
     NoJob,

@@ -11,7 +11,7 @@ use iso_time::{Instant, read_instant};
 const MAX_BODY: u32 = 8_388_608;
 
 /// A header: what its frame is, at which instant, and how many bytes its body has.
-#[derive(Clone, Copy, Debug, PartialEq, Eq)]
+#[derive(Clone, Copy, PartialEq, Eq)]
 pub enum Header {
     /// `mpd <instant> <length>`.
     Mpd { now: Instant, length: u32 },

@@ -8,7 +8,7 @@ use iso_time::Instant;
 /// A `base` is the URL of the folder that the store's root stands for, as it is written. An `out` is the folder of the
 /// files that are written, and has at most 242 bytes. `digits` are the decimals of printed durations. `instant` is that
 /// at which a live MPD is read.
-#[derive(Debug, Drop)]
+#[derive(Drop)]
 pub enum Job {
     /// An MPD to playlists.
     Hls(HlsJob),
@@ -35,7 +35,7 @@ pub enum Job {
 }
 
 /// An MPD whose playlists are to be written.
-#[derive(Debug, Drop)]
+#[derive(Drop)]
 pub struct HlsJob {
     /// The MPD's file.
     pub mpd: Name,
@@ -50,7 +50,7 @@ pub struct HlsJob {
 }
 
 /// A master whose MPD is to be written.
-#[derive(Debug, Drop)]
+#[derive(Drop)]
 pub struct MasterJob {
     /// The master playlist's file.
     pub master: Name,
@@ -61,7 +61,7 @@ pub struct MasterJob {
 }
 
 /// A live MPD that is to be followed.
-#[derive(Debug, Drop)]
+#[derive(Drop)]
 pub struct FollowJob {
     /// The name that the MPD is read under.
     pub name: Name,
@@ -74,7 +74,7 @@ pub struct FollowJob {
 }
 
 /// A manifest whose tracks and sections are to be told.
-#[derive(Debug, Drop)]
+#[derive(Drop)]
 pub struct ShowJob {
     /// The file of an MPD or of a master playlist.
     pub file: Name,
@@ -87,7 +87,7 @@ pub struct ShowJob {
 }
 
 /// An MPD and a master that are to be compared.
-#[derive(Debug, Drop)]
+#[derive(Drop)]
 pub struct CheckJob {
     /// The MPD's file.
     pub mpd: Name,
@@ -100,7 +100,7 @@ pub struct CheckJob {
 }
 
 /// A media playlist that is to take the place of an older one (RFC 8216, 6.2.1).
-#[derive(Debug, Drop)]
+#[derive(Drop)]
 pub struct ReloadJob {
     /// The file of the playlist before.
     pub old: Name,
@@ -111,7 +111,7 @@ pub struct ReloadJob {
 }
 
 /// An MPD that is to be made, with its playlists.
-#[derive(Debug, Drop)]
+#[derive(Drop)]
 pub struct MakeJob {
     /// The number that the MPD is made from.
     pub seed: u32,
@@ -122,7 +122,7 @@ pub struct MakeJob {
 }
 
 /// An MPD whose media files have an index inside, and whose playlists are to be written.
-#[derive(Debug, Drop)]
+#[derive(Drop)]
 pub struct IndexJob {
     /// The MPD's file.
     pub mpd: Name,
@@ -135,7 +135,7 @@ pub struct IndexJob {
 }
 
 /// An MPD whose times are to be compared with those that its media files state.
-#[derive(Debug, Drop)]
+#[derive(Drop)]
 pub struct AgreeJob {
     /// The MPD's file.
     pub mpd: Name,

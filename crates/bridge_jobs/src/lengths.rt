@@ -13,7 +13,7 @@ use std::alloc::Global;
 const MAX_BODIES: u32 = 67_108_864;
 
 /// `round <instant> <length> ..`: when the playlists of a round were read, and how many bytes each has.
-#[derive(Debug, Drop)]
+#[derive(Drop)]
 pub struct RoundHeader {
     pub now: Instant,
     pub lengths: Sequence<u32>,

@@ -21,7 +21,7 @@ const MAX_HEADER: usize = 2048;
 pub type BodyList = Sequence<Bytes>;
 
 /// The media playlists of a live presentation, all read at one instant.
-#[derive(Debug, Drop)]
+#[derive(Drop)]
 pub struct Round {
     /// When they were read.
     pub now: Instant,

@@ -6,7 +6,7 @@ use clap::{Arg, Command};
 use std::alloc::{AllocError, Global};
 
 /// A command: the first word of a command line.
-#[derive(Clone, Copy, Debug, PartialEq, Eq)]
+#[derive(Clone, Copy, PartialEq, Eq)]
 pub enum Verb {
     /// An MPD to playlists.
     Hls,
@@ -33,7 +33,7 @@ pub enum Verb {
 }
 
 /// A word or two behind a command's own word, by its name.
-#[derive(Clone, Copy, Debug)]
+#[derive(Clone, Copy)]
 pub enum Parameter {
     /// A word, known by its place.
     Positional(&'static str),

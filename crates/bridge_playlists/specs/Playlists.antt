@@ -2,13 +2,13 @@
 use Rattle.bridge_report.specs.declared.refusal.Refusal.TheVariants as refusal
 use Rattle.std.specs.Prelude.{◌≡◌, ◌≤◌, ℕ, ◌+◌, nat_lt, List, [], ◌∷◌, ◌++◌, length, map, sum_by, All, if◌then◌else◌, Option, Some, None}
 use Rattle.std.specs.Prelude.{option_map, Result, Ok, Err}
-use Rattle.bridge_io.specs.{Answer.and_then, Outside.Files}
+use Rattle.bridge_io.specs.{Answer.{and_then, told_as}, Outside.Files}
 use Rattle.url_parts.specs.Addresses.{local_name_of}
 use Rattle.hls_media.specs.{Laws.IsBounded, declared.media.Media.Media}
 use Rattle.hls_master.specs.{declared.fault.MasterFault.MasterFault, declared.track.MasterTrack.MasterTrack, Tracks.TrackValue}
 use Rattle.hls_master.specs.Masters.{master_of}
 use Rattle.hls_presentation.specs.Presenting.{hls_presented_of}
-use Rattle.presentation.specs.{Presented.Presented, Scales.rate_of, Told.told_as}
+use Rattle.presentation.specs.{Presented.Presented, Ratios.rate_of}
 use Rattle.bridge_report.specs.Reading.{Named, content_of, media_at, of_file}
 use Rattle.bridge_playlists.specs.{declared.medias.Medias.Medias, declared.place.StorePlace.StorePlace}
 

@@ -18,7 +18,7 @@ use url_parts::{Address, Base, UrlFault, local_name};
 const SEGMENT_LIMIT: u64 = 500_000;
 
 /// Media playlists that are read one after another.
-#[derive(Debug, Drop)]
+#[derive(Drop)]
 pub struct Medias {
     /// The playlists in the order of their tracks.
     pub files: MediaFiles,

@@ -8,7 +8,7 @@ use std::alloc::Global;
 use url_parts::Base;
 
 /// Where a master lies.
-#[derive(Debug, Drop)]
+#[derive(Drop)]
 pub struct StorePlace {
     /// Its file.
     pub file: Name,

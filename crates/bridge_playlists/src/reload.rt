@@ -20,7 +20,7 @@ use std::alloc::Global;
 use url_parts::Base;
 
 /// The URLs of the two playlists.
-#[derive(Debug, Drop)]
+#[derive(Drop)]
 struct Urls {
     old: Base,
     new: Base,

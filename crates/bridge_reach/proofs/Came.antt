@@ -2,14 +2,14 @@
 use Rattle.bridge_report.specs.declared.refusal.Refusal.TheVariants as refusal
 use Rattle.std.proofs.Common.{◌≡◌, ℕ, List, Option, Ok}
 use Rattle.bridge_io.proofs.AndThen.{steps_of}
-use Rattle.bridge_io.specs.Outside.{Files}
+use Rattle.bridge_io.specs.{Outside.Files, Answer.told_as}
 use Rattle.index_parts.specs.Presented.{indexed_of}
 use Rattle.laws_of_playlists.specs.IndexOrigins.{CameFromIndexes}
 use Rattle.mpd_levels.specs.declared.indexed.IndexRow.{IndexRow}
 use Rattle.mpd_rules.specs.{Rules.indexed_mpd_of, Typed.TypedMpd}
-use Rattle.mpd_text.specs.{Meaning.reading_of, Trees.Element}
+use Rattle.mpd_tree.specs.{Meaning.reading_of, Trees.Element}
 use Rattle.presentation.proofs.Filling.{ok_under}
-use Rattle.presentation.specs.{Presented.Presented, Told.told_as, Verifying.verified}
+use Rattle.presentation.specs.{Presented.Presented, Verifying.verified}
 use Rattle.bridge_playlists.specs.declared.place.StorePlace.{StorePlace}
 use Rattle.bridge_report.specs.Reading.{content_of}
 use Rattle.bridge_steps.specs.Manifests.{checked}

@@ -4,7 +4,7 @@ use Rattle.std.proofs.{Common.{ap, ◌∙◌, arith, length-append}, lemmas.List
 use Rattle.std.proofs.lemmas.Option.{slice_get-get_or}
 use Rattle.std.specs.{List.range_with_len, Prelude.slice_get}
 use Rattle.bridge_io.proofs.AndThen.{steps_of}
-use Rattle.presentation.specs.Told.{gathered}
+use Rattle.bridge_io.specs.Answer.{gathered}
 use Rattle.fragment_times.specs.{declared.fault.TimesFault.TimesFault, Times.{alone, each}}
 
 pub in_range : (n t : ℕ) → t < n → slice_get (range_with_len 0 n) t ≡ Some t

@@ -4,17 +4,17 @@ use Rattle.bridge_report.specs.declared.refusal.Refusal.TheVariants as refusals
 use Rattle.std.proofs.Common.{◌≡◌, ◌⊎◌, ℕ, ℤ, ◌+◌, List, [], ◌∷◌, length, Option, None, Some, option_map, IfSome, Result, Ok, Err, OnErr}
 use Rattle.std.proofs.Common.{OnOk, refl, sym, ap, ◌∙◌, subst, arith}
 use Rattle.std.specs.{Prelude.{IfErr, IfOk, IsSome}, Option.option_map_or, Result.{result_err, result_ok, result_unwrap_or}}
-use Rattle.bridge_io.specs.{Answer.{Gives, and_then}, InOrder.{AreBegun, put_all}, Outside.{Changes, Files, put}, Written.HasFront}
+use Rattle.bridge_io.specs.{Answer.{Gives, and_then, told_as}, InOrder.{AreBegun, put_all}, Outside.{Changes, Files, put}, Written.HasFront}
 use Rattle.bridge_io.specs.declared.out_fault.OutFault.{OutFault}
 use Rattle.dash_writer.specs.{Live.live_text, declared.live.LiveMpd.LiveMpd}
 use Rattle.iso_time.specs.Instant.{IsReadable}
 use Rattle.hls_media.specs.declared.media.Media.{Media}
-use Rattle.hls_follow.specs.{Rounds.{Following, appended_by, followed_of, next_of}, declared.fault.LiveFault.LiveFault}
+use Rattle.hls_follow.specs.Rounds.{Following, appended_by, followed_of, next_of}
+use Rattle.layer_faults.specs.declared.live.LiveFault.{LiveFault}
 use Rattle.hls_follow.specs.declared.state.Followed.{Followed}
-use Rattle.presentation.specs.Told.{told_as}
-use Rattle.bridge_jobs.specs.{Frames.{ReadsFrom, refusal}, Laws.RoundsFollow, Rounds.{RoundStream, Rounded, next_round, rounded_as}}
-use Rattle.bridge_jobs.specs.{Rounds.{rounds_by, rounds_from}, declared.frame.FramePos.FramePos, declared.frame.FrameFault.FrameFault}
-use Rattle.bridge_jobs.specs.declared.round.Round.{Round}
+use Rattle.bridge_jobs.specs.{Frames.{ReadsFrom, refusal}, Laws.RoundsFollow}
+use Rattle.bridge_jobs.specs.Rounds.{RoundStream, Rounded, next_round, rounded_as, rounds_by, rounds_from}
+use Rattle.bridge_jobs.specs.{declared.frame.FramePos.FramePos, declared.frame.FrameFault.FrameFault, declared.round.Round.Round}
 use Rattle.bridge_report.specs.{Refusals.{refusal_text, refused_in}, declared.refusal.Refusal.Refusal, declared.refusal.Stop.Stop}
 use Rattle.bridge_steps.specs.{Follow.Accepts, Streams.ReadsFirst}
 use Rattle.bridge_steps.proofs.Begun.{begun, one_put}

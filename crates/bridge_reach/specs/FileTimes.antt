@@ -4,12 +4,12 @@ use Rattle.bridge_report.specs.declared.refusal.Refusal.TheVariants as refusal
 use Rattle.bridge_report.specs.declared.times_refusal.TimesRefusal.TheVariants as times
 use Rattle.std.specs.Prelude.{ℕ, nat_lt, ◌&&◌, Bool, List, length, slice_get, if◌then◌else◌, Option, None, unwrap_or, Result}
 use Rattle.std.specs.Option.{option_and_then}
-use Rattle.bridge_io.specs.Outside.{Files}
+use Rattle.bridge_io.specs.{Outside.Files, Answer.told_as}
 use Rattle.url_parts.specs.{Addresses.local_name_of, declared.address.Part.Part}
 use Rattle.fragment_times.specs.{declared.fault.SegmentSpot.SegmentSpot, declared.fault.TimesFault.TimesFault}
 use Rattle.fragment_times.specs.{declared.times.SegmentTimes.SegmentTimes, Durations.durations_of, Times.{parts_of, times_of}}
-use Rattle.presentation.specs.{declared.fault.PresentationFault.TheVariants.Memory, declared.parts.Content.Content, Presented.Presented}
-use Rattle.presentation.specs.{Presented.{content_at, listed_at}, Told.told_as}
+use Rattle.presentation.specs.{declared.fault.PresentationFault.TheVariants.Memory, declared.parts.Content.Content}
+use Rattle.presentation.specs.Presented.{Presented, content_at, listed_at}
 use Rattle.bridge_playlists.specs.declared.place.StorePlace.{StorePlace}
 use Rattle.bridge_report.specs.Reading.{Named}
 

@@ -3,12 +3,12 @@ use Rattle.index_parts.specs.declared.fault.IndexFault.TheVariants as fault
 use Rattle.bridge_report.specs.declared.index_refusal.IndexRefusal.TheVariants as index
 use Rattle.bridge_report.specs.declared.refusal.Refusal.TheVariants as refusal
 use Rattle.std.specs.Prelude.{◌^◌, ℕ, List, Option, option_map, Result}
-use Rattle.bridge_io.specs.{Answer.and_then, Outside.Files}
+use Rattle.bridge_io.specs.{Answer.{and_then, told_as}, Outside.Files}
 use Rattle.index_parts.specs.{declared.fault.IndexFault.IndexFault, Presented.indexed_of}
 use Rattle.mpd_levels.specs.declared.indexed.IndexRow.{IndexRow}
 use Rattle.mpd_rules.specs.{Rules.indexed_mpd_of, Typed.TypedMpd}
-use Rattle.mpd_text.specs.Meaning.{reading_of}
-use Rattle.presentation.specs.{declared.fault.PresentationFault.TheVariants.Memory, Presented.Presented, Told.told_as}
+use Rattle.mpd_tree.specs.Meaning.{reading_of}
+use Rattle.presentation.specs.{declared.fault.PresentationFault.TheVariants.Memory, Presented.Presented}
 use Rattle.bridge_jobs.specs.declared.jobs.IndexJob.{IndexJob}
 use Rattle.bridge_playlists.specs.{declared.place.StorePlace.StorePlace, Places.store_place_of}
 use Rattle.bridge_report.specs.{declared.refusal.Refusal.Refusal, Outcomes.Outcome, Reading.{Named, content_of, of_file}}

@@ -3,24 +3,22 @@ use Rattle.bridge_courses.specs.declared.ending.Ending.TheVariants as ending
 use Rattle.bridge_courses.specs.declared.status.Verdict.TheVariants as verdict
 use Rattle.bridge_report.specs.declared.refusal.Refusal.TheVariants as refusal
 use Rattle.std.specs.Prelude.{◌≡◌, ◌⊎◌, ℕ, ℤ, ◌+◌, ◌<◌, true, codes, List, [], ◌∷◌, ◌++◌, length, map, Option, Some, None, option_map}
-use Rattle.std.specs.{Prelude.{IsSome, Result, Ok, Err}, Option.{option_and_then, option_map_or}, Result.{result_err, result_ok}}
-use Rattle.std.specs.Result.{result_unwrap_or}
-use Rattle.bridge_io.specs.{Answer.and_then, Fault.Rose, Outside.Files}
+use Rattle.std.specs.{Prelude.{IsSome, Result, Ok, Err}, Option.{option_and_then, option_map_or}}
+use Rattle.std.specs.Result.{result_err, result_ok, result_unwrap_or}
+use Rattle.bridge_io.specs.{Answer.{and_then, told_as}, Fault.Rose, Outside.Files}
 use Rattle.iso_time.specs.Instant.{IsReadable}
 use Rattle.hls_master.specs.declared.track.MasterTrack.{MasterTrack}
 use Rattle.hls_media.specs.{Media.media_of, declared.media.Media.Media}
 use Rattle.hls_follow.specs.Rounds.{appended_by, next_of}
 use Rattle.dash_writer.specs.Live.{live_text}
-use Rattle.presentation.specs.Told.{told_as}
 use Rattle.bridge_jobs.specs.{Laws.in_folder, Rounds.rounds_from, declared.frame.FramePos.FramePos, declared.round.Round.Round}
 use Rattle.bridge_jobs.specs.declared.jobs.MasterJob.{MasterJob}
 use Rattle.bridge_courses.specs.{Courses.{Course, World}, Steps.IsCaused, declared.ending.Ending.Ending}
-use Rattle.bridge_report.specs.{Following.Followed, Outcomes.{Ends, base_refused, course_by}, Reading.Named, Refusals.refusal_line}
-use Rattle.bridge_report.specs.{Refusals.refusal_text, declared.refusal.Refusal.Refusal}
+use Rattle.bridge_report.specs.{Following.Followed, Outcomes.{Ends, course_by}, Reading.Named, Refusals.{refusal_line, refusal_text}}
+use Rattle.bridge_report.specs.declared.refusal.Refusal.{Refusal}
 use Rattle.bridge_playlists.specs.{Places.store_place_of, Playlists.master_at, declared.place.StorePlace.StorePlace}
 use Rattle.bridge_steps.specs.{Follow.{course_placed, follow_course}, Streams.Stream}
-use Rattle.bridge_reach.specs.{declared.rounds.LiveHls.LiveHls}
-use Rattle.bridge_reach.specs.declared.rounds.LiveRounds.{LiveRounds}
+use Rattle.bridge_reach.specs.{declared.rounds.LiveHls.LiveHls, declared.rounds.LiveRounds.LiveRounds}
 
 -- ---- the playlists of a round
 

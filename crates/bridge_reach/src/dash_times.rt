@@ -16,11 +16,11 @@ use bridge_report::{Halt, halted};
 use bridge_steps::{mpd_and_line, place_in, written};
 use dash_writer::{TickList, TickRun, TickSeq, write_mpd_timed};
 use fragment_times::SegmentTimes;
-use presentation::{Presentation, segments_can_be_listed};
+use presentation::{Presentation, playlists_can_be_listed};
 use std::alloc::Global;
 
 /// A presentation that came from playlists, with the media times of its segments.
-#[derive(Debug, Drop)]
+#[derive(Drop)]
 struct Timed {
     presentation: Presentation,
     runs: TickList,
@@ -99,7 +99,7 @@ fn runs_at<F: Store, L: Ledger>(
     ensures reads { ReadsAs F.Store store.old store.new (λ runs. runs) (λ files. spec.runs_at place.now files presentation.now) result }
     ensures can { IfOk result (CanBeTimed presentation.now) }
 {
-    segments_can_be_listed();
+    playlists_can_be_listed();
     let times = times_at(alloc, place, presentation, store, steps)?;
     let durations = durations_at(alloc, place, presentation, &times, steps)?;
     let starts = times.as_slice();

@@ -24,7 +24,7 @@ use url_parts::Base;
 pub type BaseList = Sequence<Base>;
 
 /// Live playlists that are followed, by rounds of them.
-#[derive(Debug, Drop)]
+#[derive(Drop)]
 pub struct LiveHls {
     /// The playlists' URLs, by the tracks of the master.
     pub urls: BaseList,

@@ -1,8 +1,8 @@
 -- The words of the report for media files whose own times are wanted, and where a refusal stands in one.
 use Rattle.box_reader.specs.declared.head.BoxFault.TheVariants as boxes
-use Rattle.fragment_times.specs.declared.fault.FileFault.TheVariants as file
+use Rattle.layer_faults.specs.declared.times.FileFault.TheVariants as file
 use Rattle.std.specs.Prelude.{ℕ, List, codes, Option, Some, None}
-use Rattle.fragment_times.specs.declared.fault.FileFault.{FileFault}
+use Rattle.layer_faults.specs.declared.times.FileFault.{FileFault}
 use Rattle.bridge_report.specs.{declared.spot.Spot.Spot, declared.spot.Spot.TheVariants.Byte}
 use Rattle.bridge_report.specs.declared.times_refusal.TimesRefusal.{TimesRefusal}
 use Rattle.bridge_report.specs.declared.times_refusal.TimesRefusal.TheVariants.{OutsideBase, Range, File}

@@ -1,8 +1,8 @@
 -- The words of the report for media files with an index inside, and where a refusal stands in one.
 use Rattle.box_reader.specs.declared.head.BoxFault.TheVariants as boxes
-use Rattle.index_parts.specs.declared.fault.FileFault.TheVariants as file
+use Rattle.layer_faults.specs.declared.index.FileFault.TheVariants as file
 use Rattle.std.specs.Prelude.{ℕ, List, codes, Option, Some, None}
-use Rattle.index_parts.specs.declared.fault.FileFault.{FileFault}
+use Rattle.layer_faults.specs.declared.index.FileFault.{FileFault}
 use Rattle.bridge_report.specs.{declared.spot.Spot.Spot, declared.spot.Spot.TheVariants.Byte}
 use Rattle.bridge_report.specs.declared.index_refusal.IndexRefusal.{IndexRefusal}
 use Rattle.bridge_report.specs.declared.index_refusal.IndexRefusal.TheVariants.{OutsideBase, TooLong, File}

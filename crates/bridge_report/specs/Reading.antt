@@ -1,11 +1,10 @@
 -- The files of a job, or the first of them that is refused.
 use Rattle.bridge_report.specs.declared.reading.Halt.TheVariants as halt
 use Rattle.bridge_report.specs.declared.refusal.Refusal.TheVariants as refusal
-use Rattle.std.specs.{Prelude.{◌≡◌, ℕ, List, Option, Some, None, Result, IsErrOf}, Option.ForSome}
-use Rattle.bridge_io.specs.{Answer.{Gives, and_then}, Fault.HasCause, Outside.Files, Slurped.whole_file}
 use Rattle.bridge_io.specs.declared.outside.Store.{Ghosts as Store}
+use Rattle.std.specs.{Prelude.{◌≡◌, ℕ, List, Option, Some, None, Result, IsErrOf}, Option.ForSome}
+use Rattle.bridge_io.specs.{Answer.{Gives, and_then, told_as}, Fault.HasCause, Outside.Files, Slurped.whole_file}
 use Rattle.hls_media.specs.{declared.media.Media.Media, Media.media_of}
-use Rattle.presentation.specs.Told.{told_as}
 use Rattle.bridge_report.specs.{declared.reading.Halt.Halt, declared.refusal.Refusal.Refusal, Refusals.refusal_of_file}
 
 -- the bytes that a manifest has at most

@@ -1,29 +1,30 @@
 -- Why a job's input is refused, and the line of the report that tells it.
 use Rattle.bridge_jobs.specs.declared.frame.FrameFault.TheVariants as frame
-use Rattle.mpd_text.specs.declared.fault.TextFault.TheVariants as text
+use Rattle.mpd_tree.specs.declared.fault.TextFault.TheVariants as text
 use Rattle.mpd_profile.specs.declared.fault.RuleFault.TheVariants as rules
 use Rattle.hls_lines.specs.declared.fault.LineFault.TheVariants as line
 use Rattle.hls_master.specs.declared.fault.MasterFault.TheVariants as master
 use Rattle.hls_media.specs.declared.fault.MediaFault.TheVariants as media
 use Rattle.presentation.specs.declared.fault.Spot.TheVariants as address
 use Rattle.presentation.specs.declared.fault.PresentationFault.TheVariants as presentation
-use Rattle.hls_follow.specs.declared.fault.LiveFault.TheVariants as live
+use Rattle.layer_faults.specs.declared.live.LiveFault.TheVariants as live
 use Rattle.bridge_report.specs.declared.refusal.Refusal.TheVariants as refusal
 use Rattle.bridge_report.specs.declared.refusal.Stop.TheVariants as stop
 use Rattle.std.specs.Prelude.{ℕ, List, [], ◌++◌, codes, decimal, Option, Some, None}
 use Rattle.bridge_io.specs.Slurped.{Unread, Long, Missing}
 use Rattle.bridge_jobs.specs.declared.frame.FrameFault.{FrameFault}
-use Rattle.mpd_text.specs.declared.fault.TextFault.{TextFault}
+use Rattle.mpd_tree.specs.declared.fault.TextFault.{TextFault}
 use Rattle.mpd_profile.specs.declared.fault.RuleFault.{RuleFault}
 use Rattle.hls_lines.specs.declared.fault.LineFault.{LineFault}
 use Rattle.hls_master.specs.declared.fault.MasterFault.{MasterFault}
 use Rattle.hls_media.specs.declared.fault.MediaFault.{MediaFault}
 use Rattle.presentation.specs.{declared.fault.Spot.Spot as AddressSpot, declared.fault.PresentationFault.PresentationFault}
-use Rattle.hls_follow.specs.declared.fault.LiveFault.{LiveFault}
+use Rattle.layer_faults.specs.declared.live.LiveFault.{LiveFault}
 use Rattle.bridge_report.specs.{declared.spot.Spot.Spot, declared.spot.Spot.TheVariants.{Byte, At, Segment}}
 use Rattle.bridge_report.specs.{declared.refusal.Refusal.Refusal, declared.refusal.Stop.Stop, FileTimes.{times_spot, times_words}}
-use Rattle.bridge_report.specs.{Indexes.{index_spot, index_words}, Words.{text_words, rule_words, presentation_words, media_words}}
-use Rattle.bridge_report.specs.Words.{master_words, hls_words, frame_words, update_words, live_words}
+use Rattle.bridge_report.specs.Indexes.{index_spot, index_words}
+use Rattle.bridge_report.specs.Words.{text_words, rule_words, presentation_words, media_words, master_words, hls_words, frame_words}
+use Rattle.bridge_report.specs.Words.{update_words, live_words}
 
 -- ---- where
 

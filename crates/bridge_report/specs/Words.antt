@@ -1,31 +1,31 @@
 -- The words of the report for each fault: the layer's word, the number and the name.
+use Rattle.bridge_jobs.specs.declared.frame.FrameFault.TheVariants as frame
+use Rattle.mpd_tree.specs.declared.fault.TextFault.TheVariants as text
+use Rattle.mpd_profile.specs.declared.fault.RuleFault.TheVariants as rules
+use Rattle.layer_faults.specs.declared.live.LiveFault.TheVariants as live
+use Rattle.bridge_report.specs.declared.update_fault.UpdateFault.TheVariants as update
+use Rattle.hls_lines.specs.declared.fault.LineFault.TheVariants as line
+use Rattle.hls_master.specs.declared.fault.MasterFault.TheVariants as master
+use Rattle.hls_media.specs.declared.fault.MediaFault.TheVariants as media
+use Rattle.layer_faults.specs.declared.hls.HlsFault.TheVariants as hls
+use Rattle.url_parts.specs.declared.fault.UrlFault.TheVariants as url
+use Rattle.template_ids.specs.declared.fault.TemplateFault.TheVariants as template
+use Rattle.timeline.specs.declared.fault.TimeFault.TheVariants as times
+use Rattle.presentation.specs.declared.fault.PresentationFault.TheVariants as presentation
 use Rattle.std.specs.Prelude.{ℕ, List, [], codes}
 use Rattle.bridge_jobs.specs.declared.frame.FrameFault.{FrameFault}
-use Rattle.bridge_jobs.specs.declared.frame.FrameFault.TheVariants as frame
-use Rattle.mpd_text.specs.declared.fault.TextFault.{TextFault}
-use Rattle.mpd_text.specs.declared.fault.TextFault.TheVariants as text
+use Rattle.mpd_tree.specs.declared.fault.TextFault.{TextFault}
 use Rattle.mpd_profile.specs.declared.fault.RuleFault.{RuleFault}
-use Rattle.mpd_profile.specs.declared.fault.RuleFault.TheVariants as rules
-use Rattle.hls_follow.specs.declared.fault.LiveFault.{LiveFault}
-use Rattle.hls_follow.specs.declared.fault.LiveFault.TheVariants as live
+use Rattle.layer_faults.specs.declared.live.LiveFault.{LiveFault}
 use Rattle.bridge_report.specs.declared.update_fault.UpdateFault.{UpdateFault}
-use Rattle.bridge_report.specs.declared.update_fault.UpdateFault.TheVariants as update
 use Rattle.hls_lines.specs.declared.fault.LineFault.{LineFault}
-use Rattle.hls_lines.specs.declared.fault.LineFault.TheVariants as line
 use Rattle.hls_master.specs.declared.fault.MasterFault.{MasterFault}
-use Rattle.hls_master.specs.declared.fault.MasterFault.TheVariants as master
 use Rattle.hls_media.specs.declared.fault.MediaFault.{MediaFault}
-use Rattle.hls_media.specs.declared.fault.MediaFault.TheVariants as media
-use Rattle.hls_presentation.specs.declared.fault.HlsFault.{HlsFault}
-use Rattle.hls_presentation.specs.declared.fault.HlsFault.TheVariants as hls
+use Rattle.layer_faults.specs.declared.hls.HlsFault.{HlsFault}
 use Rattle.url_parts.specs.declared.fault.UrlFault.{UrlFault}
-use Rattle.url_parts.specs.declared.fault.UrlFault.TheVariants as url
 use Rattle.template_ids.specs.declared.fault.TemplateFault.{TemplateFault}
-use Rattle.template_ids.specs.declared.fault.TemplateFault.TheVariants as template
 use Rattle.timeline.specs.declared.fault.TimeFault.{TimeFault}
-use Rattle.timeline.specs.declared.fault.TimeFault.TheVariants as times
 use Rattle.presentation.specs.declared.fault.PresentationFault.{PresentationFault}
-use Rattle.presentation.specs.declared.fault.PresentationFault.TheVariants as presentation
 
 -- a fault of the outside and want of memory are no refusals, and have no words
 

@@ -4,13 +4,12 @@ ghost use Rattle.bridge_report.specs.Words as spec;
 
 use crate::update_fault::UpdateFault;
 use bridge_jobs::FrameFault;
-use hls_follow::LiveFault;
 use hls_lines::LineFault;
 use hls_master::MasterFault;
 use hls_media::MediaFault;
-use hls_presentation::HlsFault;
-use mpd_rules::RuleFault;
-use mpd_text::TextFault;
+use layer_faults::{HlsFault, LiveFault};
+use mpd_profile::RuleFault;
+use mpd_tree::TextFault;
 use presentation::PresentationFault;
 use template_ids::TemplateFault;
 use timeline::TimeFault;

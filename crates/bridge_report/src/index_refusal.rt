@@ -4,11 +4,11 @@ ghost use Rattle.bridge_report.specs.Indexes as spec;
 
 use crate::spot::Spot;
 use box_reader::BoxFault;
-use index_parts::FileFault;
+use layer_faults::index::FileFault;
 
 /// Why an MPD and its media files, with an index inside, are refused beside what an MPD alone is refused for (ISO/IEC 23009-1,
 /// 5.3.9.2).
-#[derive(Clone, Copy, Debug, PartialEq, Eq)]
+#[derive(Clone, Copy, PartialEq, Eq)]
 pub enum IndexRefusal {
     /// Of the MPD: the address of a media file isn't that of a file in the store's folder.
     OutsideBase,

@@ -15,7 +15,7 @@ use url_parts::Base;
 const MANIFEST_LIMIT: u64 = 8_388_608;
 
 /// Why the files of a job aren't read.
-#[derive(Debug, Drop)]
+#[derive(Drop)]
 pub enum Halt {
     /// The file of this name is refused.
     Refused(Text, Refusal),

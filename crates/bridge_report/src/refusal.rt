@@ -12,18 +12,17 @@ use crate::times_refusal::{TimesRefusal, times_spot, times_words};
 use crate::update_fault::UpdateFault;
 use bridge_io::{NoMemory, Place, Text};
 use bridge_jobs::FrameFault;
-use hls_follow::LiveFault;
 use hls_lines::LineFault;
 use hls_master::MasterFault;
 use hls_media::MediaFault;
-use hls_presentation::HlsFault;
-use mpd_rules::RuleFault;
-use mpd_text::TextFault;
+use layer_faults::{HlsFault, LiveFault};
+use mpd_profile::RuleFault;
+use mpd_tree::TextFault;
 use presentation::PresentationFault;
 use std::alloc::Global;
 
 /// Why the input of a job is refused.
-#[derive(Clone, Copy, Debug, PartialEq, Eq)]
+#[derive(Clone, Copy, PartialEq, Eq)]
 pub enum Refusal {
     /// The base isn't the URL of a folder as the URL Standard writes it, or too long for the file's URL.
     Base,
@@ -64,7 +63,7 @@ pub enum Refusal {
 }
 
 /// Why the input of a job isn't read.
-#[derive(Clone, Copy, Debug, PartialEq, Eq)]
+#[derive(Clone, Copy, PartialEq, Eq)]
 pub enum Stop {
     /// It is refused.
     Refused(Refusal),

@@ -4,10 +4,10 @@ ghost use Rattle.bridge_report.specs.FileTimes as spec;
 
 use crate::spot::Spot;
 use box_reader::BoxFault;
-use fragment_times::FileFault;
+use layer_faults::times::FileFault;
 
 /// Why a presentation and its media files are refused where the files' own times are wanted (ISO/IEC 14496-12, 8.4.2 and 8.8.12).
-#[derive(Clone, Copy, Debug, PartialEq, Eq)]
+#[derive(Clone, Copy, PartialEq, Eq)]
 pub enum TimesRefusal {
     /// Of the manifest: the address of a media file isn't that of a file in the store's folder.
     OutsideBase,

@@ -1,7 +1,7 @@
 // Why an update of a followed presentation may not follow.
 
 /// The first rule of a followed presentation that an update breaks, as the report tells it: without the values that differ.
-#[derive(Clone, Copy, Debug, PartialEq, Eq)]
+#[derive(Clone, Copy, PartialEq, Eq)]
 pub enum UpdateFault {
     /// The instant is before the last accepted one.
     ClockBack,

@@ -4,9 +4,6 @@ pub mod Pushing
 pub mod FrameSteps
 pub mod Grown
 pub mod Rest
-pub mod LiveFiles
-pub mod LiveStates
-pub mod LiveFrames
 pub mod Beginning
 pub mod Begun
 pub mod Static

@@ -1,14 +1,14 @@
 -- MPDs that are read, and static ones, whose presentations are finished.
-use Rattle.std.proofs.Common.{◌≡◌, ◌∙◌, ℕ, ℤ, Bool, true, false, List, Option, None, Some, IsTrue, Result, Ok, Err, if◌then◌else◌, refl, ap}
+use Rattle.std.proofs.Common.{◌≡◌, ◌∙◌, ℕ, ℤ, Bool, true, false, List, Option, None, Some, IsTrue, Ok, Err, if◌then◌else◌, refl, ap}
 use Rattle.std.specs.Prelude.{is_some}
 use Rattle.bridge_io.proofs.AndThen.{steps_of}
-use Rattle.bridge_io.specs.Answer.{and_then}
 use Rattle.mpd_levels.specs.Segments.{Segments}
 use Rattle.mpd_rules.specs.{Rules.typed_mpd_of, Typed.TypedMpd}
-use Rattle.mpd_text.specs.{Meaning.reading_of, Trees.Element}
+use Rattle.mpd_tree.specs.{Meaning.reading_of, Trees.Element}
 use Rattle.presentation.proofs.Filling.{ok_under}
-use Rattle.presentation.specs.{Listable.{AreListable, VerifiedAreListable}, Origins.{CameFromStaticMpd, StaticAreFinished}}
-use Rattle.presentation.specs.{Presented.{Presented, is_finished}, Told.{told_as, presented_of}, Verifying.verified}
+use Rattle.presentation.specs.{Listable.AreListable, Presented.{Presented, is_finished}, Verifying.verified}
+use Rattle.mpd_presentation.specs.{Listable.VerifiedAreListable, Origins.{CameFromStaticMpd, StaticAreFinished}, Told.presented_of}
+use Rattle.bridge_io.specs.Answer.{told_as}
 use Rattle.bridge_report.specs.declared.refusal.Refusal.{Refusal}
 use Rattle.bridge_steps.specs.Manifests.{checked, checked_presentation, mpd_of, ready_of, unless_live, values_of}
 

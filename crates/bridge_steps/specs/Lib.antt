@@ -2,7 +2,6 @@ pub mod Done
 pub mod Endings
 pub mod Follow
 pub mod Listing
-pub mod LiveMpds
 pub mod Manifests
 pub mod Playlists
 pub mod Streams

@@ -1,11 +1,12 @@
 -- From the bytes of an MPD to a presentation whose segments all have addresses.
 use Rattle.bridge_report.specs.declared.refusal.Refusal.TheVariants as refusal
 use Rattle.std.specs.Prelude.{ℕ, ℤ, List, if◌then◌else◌, Option, Some, None, Result, Ok, Err}
-use Rattle.bridge_io.specs.{Answer.and_then, Outside.Files}
-use Rattle.mpd_text.specs.Meaning.{reading_of}
+use Rattle.bridge_io.specs.{Answer.{and_then, told_as}, Outside.Files}
+use Rattle.mpd_tree.specs.Meaning.{reading_of}
 use Rattle.mpd_levels.specs.Segments.{Segments}
 use Rattle.mpd_rules.specs.{Typed.TypedMpd, Rules.typed_mpd_of}
-use Rattle.presentation.specs.{Presented.Presented, Told.{told_as, presented_of}, Verifying.verified}
+use Rattle.presentation.specs.{Presented.Presented, Verifying.verified}
+use Rattle.mpd_presentation.specs.Told.{presented_of}
 use Rattle.bridge_report.specs.{declared.refusal.Refusal.Refusal, Reading.{Named, content_of, of_file}}
 use Rattle.bridge_playlists.specs.declared.place.StorePlace.{StorePlace}
 

@@ -2,14 +2,14 @@
 ghost use Rattle.std.specs.Prelude.{◌≡◌, ◌^◌, Ok, Some, IfOk, IsTrue, is_some, true};
 ghost use Rattle.bridge_io.specs.Answer.{Gives};
 ghost use Rattle.live_meaning.specs.Laws.{IsTyped};
-ghost use Rattle.mpd_text.specs.Meaning.{reading_of};
-ghost use Rattle.mpd_text.specs.Nodes.{root_of};
+ghost use Rattle.mpd_tree.specs.Meaning.{reading_of};
+ghost use Rattle.mpd_tree.specs.Nodes.{root_of};
 ghost use Rattle.mpd_rules.specs.Rules.{typed_mpd_of};
 ghost use Rattle.mpd_rules.specs.Views.{segments_mpd};
 ghost use Rattle.presentation.specs.Counting.{counted, count_of_all};
 ghost use Rattle.presentation.specs.Listable.{AreListable};
 ghost use Rattle.presentation.specs.Presented.{is_finished};
-ghost use Rattle.presentation.specs.Told.{told_as};
+ghost use Rattle.bridge_io.specs.Answer.{told_as};
 ghost use Rattle.presentation.specs.Verifying.{verified};
 ghost use Rattle.bridge_report.specs.Reading.{IsNoReadFault, ReadsAs, halted};
 ghost use Rattle.bridge_report.specs.Refusals.{refused_in};
@@ -20,14 +20,16 @@ use bridge_playlists::StorePlace;
 use bridge_report::{Halt, Refusal, Stop, content_of};
 use exact_time::Digits;
 use iso_time::Instant;
+use mpd_presentation::{from_mpd, static_mpds_are_finished, verified_mpds_can_be_listed};
 use mpd_rules::{Mpd, rules};
-use mpd_text::Tree;
-use presentation::{Longest, Presentation, segments_can_be_listed, static_mpds_are_finished};
+use mpd_text::tree_from_bytes;
+use mpd_tree::Tree;
+use presentation::{Longest, Presentation};
 use std::alloc::Global;
 use url_parts::Base;
 
 /// A presentation whose segments all have addresses, with the longest printed duration of each track.
-#[derive(Debug, Drop)]
+#[derive(Drop)]
 pub struct Ready {
     /// The presentation.
     pub presentation: Presentation,
@@ -79,7 +81,7 @@ pub fn mpd_in<L: Ledger>(
     ensures no_fault { IsNoReadFault result }
 {
     static_mpds_are_finished();
-    segments_can_be_listed();
+    verified_mpds_can_be_listed();
     match checked_presentation(alloc, &place.url, bytes, now, live, digits, steps) {
         Ok(ready) => Ok(ready),
         Err(Stop::Refused(refusal)) => Err(Halt::refused(alloc, &place.file, refusal)),
@@ -119,7 +121,7 @@ pub fn ready_of<L: Ledger>(
     ensures ready { Gives (λ ready. ready.presentation) refused_in result (spec.ready_of (10 ^ digits) url.now now (segments_mpd mpd.now)) }
     ensures digits { IfOk result (λ ready. ready.digits ≡ digits) }
 {
-    match Presentation::from_mpd(alloc, mpd, url, now) {
+    match from_mpd(alloc, mpd, url, now) {
         Ok(presentation) => checked(alloc, presentation, digits, steps),
         Err(fault) => Err(Stop::of_presentation(fault)),
     }
@@ -172,7 +174,7 @@ pub fn values_of(alloc: Global, bytes: Bytes) -> Result<Mpd, Stop>
 pub fn tree_of(alloc: Global, bytes: Bytes) -> Result<Tree, Stop>
     ensures { Gives root_of refused_in result (told_as Refusal.Text (reading_of bytes)) }
 {
-    match Tree::from_bytes(alloc, bytes) {
+    match tree_from_bytes(alloc, bytes) {
         Ok(tree) => Ok(tree),
         Err(fault) => Err(Stop::of_text(fault)),
     }

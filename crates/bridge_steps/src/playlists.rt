@@ -85,7 +85,8 @@ fn write_track<F: Store, L: Ledger>(
     )
 }
 
-pub(crate) fn write_the_master<F: Store>(
+/// Writes the master of a presentation into a folder, as `master.m3u8`.
+pub fn write_the_master<F: Store>(
     alloc: Global,
     out: &Name,
     presentation: &Presentation,
@@ -104,7 +105,7 @@ pub(crate) fn write_the_master<F: Store>(
 }
 
 /// The name of a track's playlist. A folder of a job leaves room for it.
-pub(crate) fn playlist_name(alloc: Global, out: &Name, track: usize) -> Result<Name, NoMemory>
+pub fn playlist_name(alloc: Global, out: &Name, track: usize) -> Result<Name, NoMemory>
     ensures { IfOk result (λ name. name ≡ in_folder out.now (playlist_of track)) }
 {
     let out = out.as_str();

@@ -8,7 +8,7 @@ use std::marker::Model;
 use std::simd::prelude::*;
 
 /// A set of one to eight ASCII bytes, made ready for [`first_of_set`]: make it once for many calls.
-#[derive(Debug, Drop)]
+#[derive(Drop)]
 pub struct ByteSet {
     members: [u8; 8],
     // Bit `high` of row `low` tells whether 16 * high + low is a member.

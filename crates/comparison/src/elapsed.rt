@@ -2,7 +2,7 @@
 ghost use Rattle.std.specs.Prelude.{◌<◌};
 
 /// A time from one tick to another, which is negative where the latter is the earlier one.
-#[derive(Clone, Copy, Debug)]
+#[derive(Clone, Copy)]
 pub(crate) struct Elapsed {
     pub(crate) ticks: i128,
     /// How many ticks make a second.

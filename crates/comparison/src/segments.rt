@@ -132,7 +132,7 @@ impl Begins {
 }
 
 /// What a track has in a section.
-#[derive(Debug, Drop)]
+#[derive(Drop)]
 pub(crate) struct Entry<'a> {
     pub(crate) initialization: &'a Part,
     pub(crate) segments: Walk<'a>,

@@ -11,7 +11,7 @@ use exact_time::{Tick, compare, floor_unit};
 use std::cmp::Ordering;
 
 /// Where a track's first segment in a section begins, and where one of its segments ends.
-#[derive(Clone, Copy, Debug)]
+#[derive(Clone, Copy)]
 pub(crate) struct Stretch {
     pub(crate) begin: Tick,
     pub(crate) end: Tick,

@@ -11,7 +11,7 @@ use timeline::{ListFault, Segment};
 /// Segments that all have addresses, each made when it is asked for.
 ///
 /// In a contract it is what those mean that are left.
-#[derive(Debug, Drop)]
+#[derive(Drop)]
 pub(crate) struct Walk<'a> {
     segments: PrintedSegments<'a>,
 }

@@ -1,12 +1,12 @@
 -- Texts with references in the place of bytes.
 use Rattle.std.proofs.Common.{◌≡◌, ℕ, zero, suc, ◌+◌, ◌/◌, ◌%◌, ◌<◌, ◌≤◌, ◌==◌, true, false, List, [], ◌∷◌, ◌++◌, length, take, drop}
 use Rattle.std.proofs.{Common.{get_or, decimal, None, Some, refl, sym, ap, ◌∙◌, arith, inl, inr}, lemmas.Bool.cases_Bool}
-use Rattle.std.proofs.{lemmas.Bool.Decides.nat_tests, lemmas.Iterator.Adapters.position_from-zero, lemmas.List.{append-nil, get_or-drop}}
-use Rattle.std.proofs.{lemmas.List.drop-drop, lemmas.List.Quantifiers.position-Some}
+use Rattle.std.proofs.{lemmas.Bool.Decides.nat_tests, lemmas.Iterator.Adapters.position_from-zero}
+use Rattle.std.proofs.{lemmas.List.{append-nil, get_or-drop, drop-drop}, lemmas.List.Quantifiers.position-Some}
 use Rattle.std.specs.{Fmt.{digits, digits_onto, digit_glyph}, List.{position, position_from}}
 use Rattle.byte_scan.specs.ByteSet.{is_member}
-use Rattle.mpd_text.specs.Escapes.{escape_all, escape_of}
-use Rattle.mpd_text.proofs.EscapeLemmas.{byte_stays, escape-append}
+use Rattle.mpd_tree.specs.Escapes.{escape_all, escape_of}
+use Rattle.mpd_tree.proofs.EscapeLemmas.{byte_stays, escape-append}
 use Rattle.dash_writer.specs.Escaped.{four}
 
 stays : (b : ℕ) → is_member four b ≡ false → escape_of b ≡ b ∷ []

@@ -1,14 +1,13 @@
 -- Elements in parts, and one after another.
-use Rattle.std.proofs.Common.{◌≡◌, ℕ, List, [], ◌∷◌, ◌++◌, Bool, codes, flat_map, Result, Ok, Err, IsErrAnd, Option, None, Some, refl, sym}
-use Rattle.std.proofs.{Common.{ap, ◌∙◌}, lemmas.List.{append_assoc, append-nil}}
+use Rattle.std.proofs.Common.{◌≡◌, ℕ, List, [], ◌∷◌, ◌++◌, Bool, codes, flat_map, Result, Ok, Err, IsErrAnd, Option, None, Some, refl}
+use Rattle.std.proofs.{Common.{sym, ap, ◌∙◌}, lemmas.List.{append_assoc, append-nil}}
 use Rattle.std.specs.Borrow.{Bor}
 use Rattle.bridge_io.specs.{Adding.Adds, declared.outside.Fail.Fail, declared.outside.Store.Ghosts, declared.sheet.Sheet.Sheet}
 use Rattle.bridge_io.proofs.Adding.{adds_same, adds_stop, adds_stop_at, adds_then}
-use Rattle.mpd_text.specs.Escapes.{escape_all}
-use Rattle.mpd_markup.specs.Markup.{attribute_text, enclosed, opening, printed}
-use Rattle.dash_writer.specs.{Elements.{Attribute, Element, attributes_of, node, tag_of, with_attribute}, Written.all_told}
-use Rattle.dash_writer.specs.Written.{attributes_text, element_text, elements_text, end_text, is_childless, known_text, start_text, told}
-use Rattle.dash_writer.specs.declared.attribute.Value.{Value}
+use Rattle.mpd_tree.specs.{Escapes.escape_all, Markup.{attribute_text, enclosed, opening, printed}}
+use Rattle.dash_writer.specs.Elements.{Attribute, Element, attributes_of, node, tag_of, with_attribute}
+use Rattle.dash_writer.specs.Written.{all_told, attributes_text, element_text, elements_text, end_text, is_childless, known_text}
+use Rattle.dash_writer.specs.{Written.{start_text, told}, declared.attribute.Value.Value}
 
 -- ---- attributes
 

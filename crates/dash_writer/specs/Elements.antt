@@ -1,6 +1,6 @@
 -- Elements that are written.
 use Rattle.std.specs.Prelude.{ℕ, List, [], ◌∷◌, Option, Some, None}
-use Rattle.mpd_markup.specs.Markup.{Tag, Markup, nothing, element}
+use Rattle.mpd_tree.specs.Markup.{Tag, Markup, nothing, element}
 
 -- an element with what stands in it
 abbrev pub Element : Type 0

@@ -3,8 +3,8 @@
 use Rattle.std.specs.Prelude.{◌≡◌, ℕ, ◌<◌, ◌≤◌, false, ◌+◌, ◌==◌, ◌&&◌, ◌||◌, Bool, List, [], ◌∷◌, ◌++◌, length, codes, decimal, Some}
 use Rattle.std.specs.Prelude.{option_map, option_and_then}
 use Rattle.bridge_io.specs.{declared.media.Kind.Kind, declared.media.Kind.TheVariants.{Video, Audio, Text}}
-use Rattle.presentation.specs.{declared.track.Track.Track, Rows.{is_of, same_language}}
-use Rattle.mpd_markup.specs.Markup.{document}
+use Rattle.presentation.specs.{declared.track.Track.Track, Order.{is_of, same_language}}
+use Rattle.mpd_tree.specs.Markup.{document}
 use Rattle.dash_writer.specs.{Elements.{Attribute, Element, node}, Runs.longest_runs, Values.{id_text, known_rate}, Written.is_childless}
 
 pub record Outline : Type 0 where

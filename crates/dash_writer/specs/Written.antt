@@ -3,9 +3,9 @@ use Rattle.dash_writer.specs.declared.attribute.Value.TheVariants as value
 use Rattle.std.specs.Prelude.{ℕ, Bool, true, false, List, [], ◌∷◌, ◌++◌, map, codes, decimal, Option, option_map, flat_map, if◌then◌else◌}
 use Rattle.std.specs.Borrow.{Bor}
 use Rattle.iso_time.specs.Duration.{duration_text}
-use Rattle.mpd_markup.specs.Markup.{Tag, attribute_text, enclosed, opening, printed}
-use Rattle.dash_writer.specs.{Elements.{Attribute, Element, in_order, with_attribute}, Values.{id_text, range_text, rate_text}}
-use Rattle.dash_writer.specs.{Values.seconds_text, declared.attribute.Value.Value}
+use Rattle.mpd_tree.specs.Markup.{Tag, attribute_text, enclosed, opening, printed}
+use Rattle.dash_writer.specs.Elements.{Attribute, Element, in_order, with_attribute}
+use Rattle.dash_writer.specs.{Values.{id_text, range_text, rate_text, seconds_text}, declared.attribute.Value.Value}
 
 -- what a value says
 abbrev pub value_text : Value → List ℕ

@@ -1,6 +1,6 @@
 // Attributes.
 ghost use Rattle.bridge_io.specs.Adding.{Adds};
-ghost use Rattle.mpd_text.specs.Escapes.{escape_all};
+ghost use Rattle.mpd_tree.specs.Escapes.{escape_all};
 ghost use Rattle.dash_writer.specs.Elements.{attributes_of};
 ghost use Rattle.dash_writer.specs.Values.{range_text, rate_text};
 ghost use Rattle.dash_writer.specs.Written.{all_told, attributes_text, known_text, told, value_text};

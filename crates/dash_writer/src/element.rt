@@ -1,7 +1,7 @@
 // Elements.
 ghost use Rattle.std.specs.Prelude.{◌≡◌, codes, if◌then◌else◌};
 ghost use Rattle.bridge_io.specs.Adding.{Adds};
-ghost use Rattle.mpd_markup.specs.Markup.{opening};
+ghost use Rattle.mpd_tree.specs.Markup.{opening};
 ghost use Rattle.dash_writer.specs.Elements.{leaf, tag_of};
 ghost use Rattle.dash_writer.specs.Written.{all_told, element_text, end_text, start_text};
 

@@ -2,7 +2,7 @@
 ghost use Rattle.std.specs.Prelude.{◌≡◌, true};
 ghost use Rattle.byte_scan.specs.ByteSet.{is_member};
 ghost use Rattle.bridge_io.specs.Adding.{Adds};
-ghost use Rattle.mpd_text.specs.Escapes.{escape_all, escape_of};
+ghost use Rattle.mpd_tree.specs.Escapes.{escape_all, escape_of};
 ghost use Rattle.dash_writer.specs.Escaped.{four};
 
 use bridge_io::{Fail, Piece, Sheet, Store};

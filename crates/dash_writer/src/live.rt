@@ -22,7 +22,7 @@ use std::alloc::Global;
 use url_parts::{Address, Part, Range};
 
 /// A live presentation as its playlists tell it at an instant.
-#[derive(Debug, Drop)]
+#[derive(Drop)]
 pub struct LiveMpd {
     /// When the first Period begins: `@availabilityStartTime` (ISO/IEC 23009-1, 5.3.1.2).
     pub start: Instant,
@@ -39,7 +39,7 @@ pub struct LiveMpd {
 }
 
 /// The segments of one discontinuity sequence number that are listed (RFC 8216, 4.3.3.3).
-#[derive(Debug, Drop)]
+#[derive(Drop)]
 pub struct LivePeriod {
     /// That number.
     pub number: u64,
@@ -52,7 +52,7 @@ pub struct LivePeriod {
 }
 
 /// What a track has in a Period.
-#[derive(Debug, Drop)]
+#[derive(Drop)]
 pub struct LiveRun {
     /// The initialization part.
     pub initialization: Part,
@@ -61,7 +61,7 @@ pub struct LiveRun {
 }
 
 /// A listed segment.
-#[derive(Debug, Drop)]
+#[derive(Drop)]
 pub struct LiveSegment {
     /// The file.
     pub address: Address,

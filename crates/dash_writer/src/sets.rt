@@ -1,7 +1,7 @@
 // The tracks of a Period: AdaptationSets with their Representations.
 ghost use Rattle.std.specs.Prelude.{◌≡◌, ℕ, ◌+◌, ◌<◌, ◌≤◌, ◌^◌, List, ◌∷◌, false, length, take, drop, decimal, option_map, option_and_then};
 ghost use Rattle.bridge_io.specs.Adding.{Adds};
-ghost use Rattle.presentation.specs.Rows.{is_of, same_language};
+ghost use Rattle.presentation.specs.Order.{is_of, same_language};
 ghost use Rattle.dash_writer.specs.Elements.{Element};
 ghost use Rattle.dash_writer.specs.Outline as spec;
 ghost use Rattle.dash_writer.specs.Runs.{longest_runs};

@@ -24,7 +24,7 @@ use timeline::{Runs, Window};
 use url_parts::Part;
 
 /// The segments of a track in a section by their media times (ISO/IEC 23009-1, 5.3.9.6).
-#[derive(Debug, Drop)]
+#[derive(Drop)]
 pub struct TickRun {
     /// How many ticks make a second.
     pub scale: u32,

@@ -15,7 +15,7 @@ use std::marker::Model;
 ///
 /// In a contract a `Rounder` is where the first segment begins, how many units make a second, and
 /// the end of the segment before.
-#[derive(Debug, Drop)]
+#[derive(Drop)]
 pub struct Rounder {
     first: Tick,
     unit: u32,
@@ -36,7 +36,7 @@ impl Model for Rounder {
 }
 
 /// The printed durations of some segments in turn, in units.
-#[derive(Clone, Copy, PartialEq, Eq, Debug)]
+#[derive(Clone, Copy, PartialEq, Eq)]
 pub struct Equal {
     /// Their sum.
     pub total: u128,

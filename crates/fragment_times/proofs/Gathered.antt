@@ -1,8 +1,8 @@
 -- What some things give one after another.
-use Rattle.std.proofs.Common.{◌≡◌, ◌<◌, ◌+◌, ℕ, List, [], ◌∷◌, ◌++◌, Result, Ok, Err, IfSome, append-nil, append_assoc, refl, sym, ap, ◌∙◌}
+use Rattle.std.proofs.Common.{◌≡◌, ◌<◌, ◌+◌, ℕ, List, [], ◌∷◌, ◌++◌, Result, Ok, Err, IfSome, append-nil, append_assoc, refl, sym, ap}
+use Rattle.std.proofs.Common.{◌∙◌}
 use Rattle.std.specs.List.{range_with_len}
-use Rattle.bridge_io.specs.Answer.{and_then}
-use Rattle.presentation.specs.Told.{gathered}
+use Rattle.bridge_io.specs.Answer.{and_then, gathered}
 use Rattle.presentation.proofs.{Counts.{from_on, from_on-end, from_on-first, from_on-start}, Printing.if_some}
 use Rattle.fragment_times.specs.{declared.fault.TimesFault.TimesFault, Refusals.refusal, Times.{alone, behind}}
 

@@ -1,19 +1,20 @@
 -- What is read of a part tells what all of it would.
 use Rattle.std.proofs.Common.{◌≡◌, ◌<◌, ◌≤◌, ◌+◌, ◌-◌, ◌⊎◌, inl, inr, ℕ, List, ◌++◌, length, take, drop, min, Option, Some, None, Result}
-use Rattle.std.proofs.{Common.{Ok, Err, IfSome, refl, sym, ap, ◌∙◌, arith, subst}, lemmas.Bool.cases_lt, lemmas.List.drop-drop}
-use Rattle.std.proofs.{lemmas.List.{length-take, take_all}, Math.Seq.take-add}
-use Rattle.bridge_io.specs.{Answer.{Gives, and_then}, Outside.Files}
+use Rattle.std.proofs.{Common.{Ok, Err, IfSome, refl, sym, ap, ◌∙◌, arith, subst}, lemmas.Bool.cases_lt}
+use Rattle.std.proofs.{lemmas.List.{drop-drop, length-take, take_all}, Math.Seq.take-add}
+use Rattle.bridge_io.specs.{Answer.{Gives, and_then, told_as}, Outside.Files}
 use Rattle.box_reader.specs.{Boxes.{Found, Left, boxes_of, first_in, is_of}, Laws.FrontsTell, Parts.{part_of, refusal}}
-use Rattle.box_reader.specs.{declared.head.BoxFault.BoxFault, declared.part.PartFault.PartFault, declared.part.PartFault.TheVariants.Absent}
-use Rattle.box_reader.specs.declared.part.PartFault.TheVariants.{Fault, Memory}
+use Rattle.box_reader.specs.{declared.head.BoxFault.BoxFault, declared.part.PartFault.PartFault}
+use Rattle.box_reader.specs.declared.part.PartFault.TheVariants.{Absent, Fault, Memory}
 use Rattle.box_reader.proofs.Fronts.{take_less}
 use Rattle.url_parts.specs.{declared.address.Part.Part, declared.range.Range.Range}
-use Rattle.presentation.specs.Told.{told_as}
 use Rattle.presentation.proofs.Printing.{if_some}
-use Rattle.fragment_times.specs.{declared.fault.FileFault.FileFault, declared.fault.FileFault.TheVariants.Absent as NoFile}
+use Rattle.layer_faults.specs.declared.times.FileFault.{FileFault}
+use Rattle.layer_faults.specs.declared.times.FileFault.TheVariants.{Absent as NoFile}
 use Rattle.fragment_times.specs.{declared.fault.TimesFault.TimesFault, declared.fault.TimesFault.TheVariants.File}
-use Rattle.fragment_times.specs.{declared.part.Reach.Reach, Parts.{EndsWithin, box_from, box_of, byte_limit, file_of, first_byte, told_at}}
-use Rattle.fragment_times.specs.{Parts.told_of, Refusals.{part_told, refusal as refused}, Told.{first_box, needed}}
+use Rattle.fragment_times.specs.declared.part.Reach.{Reach}
+use Rattle.fragment_times.specs.Parts.{EndsWithin, box_from, box_of, byte_limit, file_of, first_byte, told_at, told_of}
+use Rattle.fragment_times.specs.{Refusals.{part_told, refusal as refused}, Told.{first_box, needed}}
 
 -- ---- bytes
 

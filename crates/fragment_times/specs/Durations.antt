@@ -1,11 +1,12 @@
 -- How long segments last, by the times that their files state.
-use Rattle.std.specs.Prelude.{ℕ, zero, suc, ◌+◌, ◌*◌, ◌-◌, ◌^◌, ◌<◌, max, sum, nat_lt, nat_le, Bool, List, [], ◌∷◌, length, slice_get, take}
-use Rattle.std.specs.{Prelude.{drop, if◌then◌else◌, Option, Some, None, Result, Ok, Err}, Int.div_ceil, Option.option_map_or}
-use Rattle.bridge_io.specs.Answer.{and_then}
+use Rattle.std.specs.Prelude.{ℕ, zero, suc, ◌+◌, ◌*◌, ◌-◌, ◌^◌, ◌<◌, max, sum, nat_lt, nat_le, Bool, List, [], ◌∷◌, length, slice_get}
+use Rattle.std.specs.{Prelude.{take, drop, if◌then◌else◌, Option, Some, None, Result, Ok, Err}, Int.div_ceil, Option.option_map_or}
+use Rattle.bridge_io.specs.Answer.{and_then, gathered}
 use Rattle.exact_time.specs.{Floor.floor_in, Time.{Time, difference}}
 use Rattle.timeline.specs.Expansions.{Timing}
-use Rattle.presentation.specs.{Counting.{sections_of, tracks_of}, Presented.{Presented, listed_at}, Told.gathered}
-use Rattle.fragment_times.specs.{declared.lasting.Begun.Begun, declared.fault.FileFault.TheVariants.{Order, Range as OutOfRange}}
+use Rattle.presentation.specs.{Counting.{sections_of, tracks_of}, Presented.{Presented, listed_at}}
+use Rattle.fragment_times.specs.declared.lasting.Begun.{Begun}
+use Rattle.layer_faults.specs.declared.times.FileFault.TheVariants.{Order, Range as OutOfRange}
 use Rattle.fragment_times.specs.{declared.fault.SegmentSpot.SegmentSpot, declared.fault.TimesFault.TimesFault}
 use Rattle.fragment_times.specs.{declared.fault.TimesFault.TheVariants.{Segment, Range}, declared.times.SegmentTimes.SegmentTimes}
 use Rattle.fragment_times.specs.{Refusals.next_spot, Times.each}

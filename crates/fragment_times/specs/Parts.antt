@@ -1,10 +1,10 @@
 -- Which bytes of files initialization parts and segments are, and what they tell.
 use Rattle.std.specs.Prelude.{ℕ, ◌+◌, ◌-◌, ◌^◌, ◌<◌, min, List, Option, Some, None, Result, Ok, Err, take, drop}
-use Rattle.bridge_io.specs.{Answer.and_then, Outside.Files}
+use Rattle.bridge_io.specs.{Answer.{and_then, told_as}, Outside.Files}
 use Rattle.box_reader.specs.{Boxes.{Found, Left}, Parts.part_of, declared.part.PartFault.PartFault}
 use Rattle.url_parts.specs.{Addresses.local_name_of, declared.address.Part.Part, declared.range.Range.Range}
-use Rattle.presentation.specs.Told.{told_as}
-use Rattle.fragment_times.specs.{declared.fault.FileFault.FileFault, declared.fault.FileFault.TheVariants.Absent}
+use Rattle.layer_faults.specs.declared.times.FileFault.{FileFault}
+use Rattle.layer_faults.specs.declared.times.FileFault.TheVariants.{Absent}
 use Rattle.fragment_times.specs.{declared.fault.TimesFault.TimesFault, declared.fault.TimesFault.TheVariants.{File, OutsideBase}}
 use Rattle.fragment_times.specs.{declared.part.Reach.Reach, Told.{decode_time_of, first_box, media_scale_of}}
 

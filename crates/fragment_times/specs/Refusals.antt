@@ -3,8 +3,10 @@ use Rattle.box_reader.specs.declared.head.BoxFault.TheVariants as box
 use Rattle.box_reader.specs.declared.part.PartFault.TheVariants as part
 use Rattle.std.specs.Prelude.{ℕ, ◌+◌, ◌==◌, ◌&&◌, ◌||◌, nat_lt, nat_le, Bool, List, Option, Some, None, Result, if◌then◌else◌, IsErrOf}
 use Rattle.box_reader.specs.declared.part.PartFault.{PartFault}
-use Rattle.fragment_times.specs.{declared.fault.FileFault.FileFault, declared.fault.FileFault.TheVariants.{Absent, Boxes, Missing, Tracks}}
-use Rattle.fragment_times.specs.{declared.fault.FileFault.TheVariants.{Scale, Order, Range}, declared.fault.SegmentSpot.SegmentSpot}
+use Rattle.layer_faults.specs.declared.times.FileFault.{FileFault}
+use Rattle.layer_faults.specs.declared.times.FileFault.TheVariants.{Absent, Boxes, Missing, Tracks}
+use Rattle.fragment_times.specs.declared.fault.SegmentSpot.{SegmentSpot}
+use Rattle.layer_faults.specs.declared.times.FileFault.TheVariants.{Scale, Order, Range}
 use Rattle.fragment_times.specs.{declared.fault.TimesFault.TimesFault, declared.fault.TimesFault.TheVariants.{File, Fault, Memory}}
 
 -- a read that failed and want of memory tell nothing of the files

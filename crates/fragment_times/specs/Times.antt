@@ -1,10 +1,10 @@
 -- What the files of a presentation state of its segments' times.
 use Rattle.std.specs.{Prelude.{◌≡◌, ℕ, ◌<◌, List, [], ◌∷◌, ◌++◌, length, map, IfSome, Result, Ok}, Option.option_map_or}
-use Rattle.bridge_io.specs.{Answer.and_then, Outside.Files}
+use Rattle.bridge_io.specs.{Answer.{and_then, gathered}, Outside.Files}
 use Rattle.url_parts.specs.declared.address.Part.{Part}
 use Rattle.timeline.specs.{declared.window.Window.Window, Expansions.{SegmentTimeline, Timing}}
-use Rattle.presentation.specs.{declared.parts.Content.Content, Counting.{sections_of, tracks_of}, Meanings.part_meant, Presented.AreFilled}
-use Rattle.presentation.specs.{Presented.{Presented, content_at, listed_in, window_of}, Told.gathered}
+use Rattle.presentation.specs.{declared.parts.Content.Content, Counting.{sections_of, tracks_of}, Meanings.part_meant}
+use Rattle.presentation.specs.Presented.{AreFilled, Presented, content_at, listed_in, window_of}
 use Rattle.fragment_times.specs.{declared.fault.TimesFault.TimesFault, declared.times.SegmentTimes.SegmentTimes, Parts.{scale_at, start_at}}
 
 -- ---- one thing after another

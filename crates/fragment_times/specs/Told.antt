@@ -5,8 +5,10 @@ use Rattle.std.specs.Prelude.{Ok, Err}
 use Rattle.bridge_io.specs.Answer.{and_then}
 use Rattle.box_reader.specs.{Boxes.{Found, Left, Walk, boxes_of, first_in, is_of}, Numbers.{u32_at, u64_at}}
 use Rattle.box_reader.specs.declared.head.BoxFault.{BoxFault}
-use Rattle.fragment_times.specs.{declared.fault.FileFault.FileFault, declared.fault.FileFault.TheVariants.{Boxes, Missing, Tracks, Scale}}
-use Rattle.fragment_times.specs.{declared.fault.FileFault.TheVariants.Range, Refusals.sooner}
+use Rattle.layer_faults.specs.declared.times.FileFault.{FileFault}
+use Rattle.layer_faults.specs.declared.times.FileFault.TheVariants.{Boxes, Missing, Tracks, Scale}
+use Rattle.fragment_times.specs.Refusals.{sooner}
+use Rattle.layer_faults.specs.declared.times.FileFault.TheVariants.{Range}
 
 -- ---- boxes inside boxes
 

@@ -81,7 +81,7 @@ fn first_of_track(
 }
 
 /// The media time of a Period's start, and how many ticks make a second of a file's media.
-#[derive(Clone, Copy, Debug)]
+#[derive(Clone, Copy)]
 struct FileClock {
     offset: Tick,
     scale: u32,

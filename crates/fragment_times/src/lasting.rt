@@ -63,7 +63,7 @@ pub fn durations(
 }
 
 /// A presentation and what the files of its segments state.
-#[derive(Clone, Copy, Debug)]
+#[derive(Clone, Copy)]
 struct Lasting<'a> {
     presentation: &'a Presentation,
     times: &'a [SegmentTimes],
@@ -249,7 +249,7 @@ fn ticks_of(
 }
 
 /// A segment that begins at a time.
-#[derive(Clone, Copy, Debug)]
+#[derive(Clone, Copy)]
 struct Begun {
     at: SegmentSpot,
     start: u64,

@@ -12,7 +12,8 @@ mod times;
 mod told;
 
 pub use agreement::first_apart;
-pub use fault::{FileFault, SegmentSpot, TimesFault};
+pub use fault::{SegmentSpot, TimesFault};
 pub use lasting::{DurationsList, TickSeq, durations};
+pub use layer_faults::times::FileFault;
 pub use listing::listing_at;
 pub use times::{SegmentTimes, StartList, TimesList, fragment_times};

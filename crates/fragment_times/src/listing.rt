@@ -11,7 +11,7 @@ use timeline::{Listing, closed_ends};
 /// The listed segments of a track in a section, from the first one on. It takes no memory.
 ///
 /// Requires that the section and the track are in range, and that each listed segment has an address, as
-/// [`presentation::segments_can_be_listed`] says of a presentation that came from playlists or was verified.
+/// [`presentation::playlists_can_be_listed`] says of a presentation that came from playlists.
 pub fn listing_at(presentation: &Presentation, section: usize, track: usize) -> Listing<'_>
     requires listable { AreListable presentation.now }
     requires section { section < length presentation.now.sections }

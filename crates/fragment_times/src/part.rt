@@ -5,7 +5,7 @@ ghost use Rattle.bridge_io.specs.Answer.{Gives};
 ghost use Rattle.bridge_io.specs.Fault.{HasCause};
 ghost use Rattle.box_reader.specs.Parts.{refusal as part_refusal};
 ghost use Rattle.box_reader.specs.declared.part.PartFault.TheVariants.{Fault as PartFailed};
-ghost use Rattle.presentation.specs.Told.{told_as};
+ghost use Rattle.bridge_io.specs.Answer.{told_as};
 ghost use Rattle.fragment_times.specs.declared.fault.TimesFault.TheVariants.{Fault, File};
 ghost use Rattle.fragment_times.specs.Parts as spec;
 ghost use Rattle.fragment_times.specs.Refusals.{IsNoFault, refusal};
@@ -28,7 +28,7 @@ const MOST_BYTES: u64 = 1_048_576;
 const PLACES: u64 = 1 << 63;
 
 /// Which bytes of a file are read at most.
-#[derive(Clone, Copy, Debug)]
+#[derive(Clone, Copy)]
 struct Reach {
     first: u64,
     limit: u64,

@@ -21,7 +21,7 @@ use timeline::{ListFault, Listing, Segment};
 use url_parts::Base;
 
 /// What the files of a track in a section state.
-#[derive(Debug, Drop)]
+#[derive(Drop)]
 pub struct SegmentTimes {
     /// How many ticks make a second, at least 1.
     pub scale: u32,
@@ -76,7 +76,7 @@ pub fn fragment_times<F: Store, L: Ledger>(
 }
 
 /// A presentation whose files are read, and the URL of the store's folder.
-#[derive(Clone, Copy, Debug)]
+#[derive(Clone, Copy)]
 struct Reading<'a> {
     presentation: &'a Presentation,
     folder: &'a Base,

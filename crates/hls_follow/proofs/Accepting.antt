@@ -3,7 +3,10 @@ use Rattle.std.proofs.{Common.{◌≡◌, ℤ, List, Option, Some, None, Ok, Err
 use Rattle.hls_master.specs.declared.track.MasterTrack.{MasterTrack}
 use Rattle.hls_media.specs.declared.media.Media.{Media}
 use Rattle.hls_presentation.specs.Tracks.{sources}
-use Rattle.hls_follow.specs.{declared.fault.LiveFault.LiveFault, declared.state.Followed.Followed, Faults.told, Kept.{IsSound, formers_of}}
+use Rattle.hls_follow.specs.declared.state.Followed.{Followed}
+use Rattle.hls_follow.specs.Faults.{told}
+use Rattle.hls_follow.specs.Kept.{IsSound, formers_of}
+use Rattle.layer_faults.specs.declared.live.LiveFault.{LiveFault}
 use Rattle.hls_follow.specs.{Rounds.{Following, appended_by, followed_of, kept_in, next_of}, Rules.appended_from}
 
 -- what was left is sound

@@ -3,7 +3,8 @@ use Rattle.std.proofs.Common.{◌≡◌, Bool, true, false, List, [], ◌∷◌,
 use Rattle.std.proofs.{lemmas.List.append-nil, lemmas.Option.IfSome_then}
 use Rattle.std.specs.List.{list_any}
 use Rattle.bridge_io.specs.Answer.{and_then}
-use Rattle.hls_follow.specs.{declared.fault.LiveFault.LiveFault, declared.fault.LiveFault.TheVariants.Limit}
+use Rattle.layer_faults.specs.declared.live.LiveFault.{LiveFault}
+use Rattle.layer_faults.specs.declared.live.LiveFault.TheVariants.{Limit}
 use Rattle.hls_follow.specs.{declared.state.TimedSegment.TimedSegment, Faults.{behind, told}, Times.{is_late, unless_late}}
 
 -- a member more

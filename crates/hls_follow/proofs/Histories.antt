@@ -15,7 +15,9 @@ use Rattle.reload_law.specs.{Laws.{IsInBoth, IsLawful, RulesAreSentences}, Rules
 use Rattle.hls_presentation.specs.Tracks.{Source, sources}
 use Rattle.dash_writer.specs.{declared.live.LiveMpd.LiveMpd, declared.live.LivePeriod.LivePeriod, declared.live.LiveRun.LiveRun}
 use Rattle.dash_writer.specs.declared.live.LiveSegment.{LiveSegment}
-use Rattle.hls_follow.specs.{declared.fault.LiveFault.LiveFault, declared.periods.Extent.Extent, declared.state.Followed.Followed}
+use Rattle.hls_follow.specs.declared.periods.Extent.{Extent}
+use Rattle.hls_follow.specs.declared.state.Followed.{Followed}
+use Rattle.layer_faults.specs.declared.live.LiveFault.{LiveFault}
 use Rattle.hls_follow.specs.{declared.state.FollowedTrack.FollowedTrack, declared.state.TimedSegment.TimedSegment}
 use Rattle.hls_follow.specs.Histories.{AreContiguousFromTheFirst, IsPlaced, IsRound, LastPlaylistsAreListed, Playlists, SegmentsStay}
 use Rattle.hls_follow.specs.{Histories.{StartsStayOverRounds, accepted_after}, Kept.{flags_of, formers_of, kept_by}, Laws.Follows}

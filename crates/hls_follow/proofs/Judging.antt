@@ -4,8 +4,12 @@ use Rattle.std.proofs.Common.{◌≡◌, ◌<◌, ◌+◌, ℕ, List, [], ◌∷
 use Rattle.std.proofs.Common.{◌∙◌, ap}
 use Rattle.bridge_io.specs.{Answer.and_then, Firsts.first_fault}
 use Rattle.hls_media.specs.declared.media.Media.{Media}
-use Rattle.hls_presentation.specs.{Views.source_of, declared.fault.HlsFault.HlsFault, declared.kept.Source.Source as Held}
-use Rattle.hls_follow.specs.{declared.fault.LiveFault.LiveFault, declared.state.FollowedTrack.FollowedTrack, Rules.fault_of_track}
+use Rattle.hls_presentation.specs.Views.{source_of}
+use Rattle.hls_presentation.specs.declared.kept.Source.{Source as Held}
+use Rattle.layer_faults.specs.declared.hls.HlsFault.{HlsFault}
+use Rattle.hls_follow.specs.declared.state.FollowedTrack.{FollowedTrack}
+use Rattle.hls_follow.specs.Rules.{fault_of_track}
+use Rattle.layer_faults.specs.declared.live.LiveFault.{LiveFault}
 use Rattle.hls_follow.specs.Rules.{judged_all}
 use Rattle.hls_follow.proofs.Keeping.{left_at}
 

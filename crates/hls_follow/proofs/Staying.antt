@@ -9,7 +9,9 @@ use Rattle.hls_master.specs.declared.track.MasterTrack.{MasterTrack}
 use Rattle.hls_media.specs.{declared.media.Media.Media, declared.media.MediaSegment.MediaSegment}
 use Rattle.hls_presentation.specs.Tracks.{Source, sources}
 use Rattle.dash_writer.specs.{declared.live.LiveMpd.LiveMpd, declared.live.LivePeriod.LivePeriod}
-use Rattle.hls_follow.specs.{declared.fault.LiveFault.TheVariants.Limit, declared.periods.Extent.Extent, declared.state.Followed.Followed}
+use Rattle.hls_follow.specs.declared.periods.Extent.{Extent}
+use Rattle.hls_follow.specs.declared.state.Followed.{Followed}
+use Rattle.layer_faults.specs.declared.live.LiveFault.TheVariants.{Limit}
 use Rattle.hls_follow.specs.{declared.state.FollowedTrack.FollowedTrack, declared.state.TimedSegment.TimedSegment, declared.state.Last.Last}
 use Rattle.hls_follow.specs.{Groups.{groups_of, row_at, row_end}, Kept.{flags_of, formers_of, periods_of}, Laws.NumbersKeepTheirTimes}
 use Rattle.hls_follow.specs.{Laws.{SectionsKeepTheirStarts, StartsStay}, Rounds.{followed_by, followed_of, followed_tracks, followed_with}}

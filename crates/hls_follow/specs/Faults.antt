@@ -1,7 +1,8 @@
 -- What is refused, and what goes on.
 use Rattle.std.specs.Prelude.{Bool, true, false, List, ◌++◌, Option, Some, None, Result, Ok, Err}
 use Rattle.bridge_io.specs.Answer.{and_then}
-use Rattle.hls_follow.specs.{declared.fault.LiveFault.LiveFault, declared.fault.LiveFault.TheVariants.Memory}
+use Rattle.layer_faults.specs.declared.live.LiveFault.{LiveFault}
+use Rattle.layer_faults.specs.declared.live.LiveFault.TheVariants.{Memory}
 
 -- want of memory tells nothing of playlists
 abbrev pub told : LiveFault → Option LiveFault

@@ -4,7 +4,8 @@ use Rattle.std.specs.Prelude.{ℤ}
 use Rattle.hls_master.specs.declared.track.MasterTrack.{MasterTrack}
 use Rattle.hls_media.specs.{Laws.IsBounded, declared.media.Media.Media}
 use Rattle.dash_writer.specs.declared.live.LivePeriod.{LivePeriod}
-use Rattle.hls_follow.specs.{declared.fault.LiveFault.LiveFault, declared.state.Followed.Followed}
+use Rattle.hls_follow.specs.declared.state.Followed.{Followed}
+use Rattle.layer_faults.specs.declared.live.LiveFault.{LiveFault}
 use Rattle.hls_follow.specs.{declared.state.FollowedTrack.FollowedTrack, Laws.{IsContiguous, Lists}, Listed.{GoesOn, ListsTrack, Placed}}
 use Rattle.hls_follow.specs.{Listed.placed_of, Rounds.followed_of}
 

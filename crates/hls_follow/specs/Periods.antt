@@ -3,7 +3,8 @@ use Rattle.std.specs.Prelude.{ℕ, ◌+◌, ◌^◌, ◌==◌, nat_le, max, List
 use Rattle.bridge_io.specs.Answer.{and_then}
 use Rattle.url_parts.specs.declared.address.Part.{Part}
 use Rattle.dash_writer.specs.{declared.live.LivePeriod.LivePeriod, declared.live.LiveRun.LiveRun, declared.live.LiveSegment.LiveSegment}
-use Rattle.hls_follow.specs.{declared.fault.LiveFault.LiveFault, declared.fault.LiveFault.TheVariants.{Limit, NoMap}}
+use Rattle.layer_faults.specs.declared.live.LiveFault.{LiveFault}
+use Rattle.layer_faults.specs.declared.live.LiveFault.TheVariants.{Limit, NoMap}
 use Rattle.hls_follow.specs.{declared.periods.Extent.Extent, declared.state.TimedSegment.TimedSegment, Groups.{row_at, row_end}}
 use Rattle.hls_follow.specs.Times.{last_in}
 

@@ -6,7 +6,8 @@ use Rattle.hls_master.specs.declared.track.MasterTrack.{MasterTrack}
 use Rattle.hls_media.specs.declared.media.Media.{Media}
 use Rattle.hls_presentation.specs.{Presenting.track_of, Tracks.{Source, sources}}
 use Rattle.dash_writer.specs.{declared.live.LiveMpd.LiveMpd, declared.live.LivePeriod.LivePeriod}
-use Rattle.hls_follow.specs.{declared.fault.LiveFault.LiveFault, declared.fault.LiveFault.TheVariants.Limit}
+use Rattle.layer_faults.specs.declared.live.LiveFault.{LiveFault}
+use Rattle.layer_faults.specs.declared.live.LiveFault.TheVariants.{Limit}
 use Rattle.hls_follow.specs.{declared.state.Followed.Followed, declared.state.FollowedTrack.FollowedTrack}
 use Rattle.hls_follow.specs.{declared.state.TimedSegment.TimedSegment, Groups.groups_of, Kept.{flags_of, formers_of, kept_by, periods_of}}
 use Rattle.hls_follow.specs.{Periods.{last_end, periods_from}, Rules.{appended_from, common_sections, judged_all, judged_at, judged_count}}

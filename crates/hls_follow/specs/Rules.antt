@@ -1,5 +1,5 @@
 -- What is refused of a round, rule by rule.
-use Rattle.hls_presentation.specs.declared.fault.HlsFault.TheVariants as hls
+use Rattle.layer_faults.specs.declared.hls.HlsFault.TheVariants as hls
 use Rattle.std.specs.Prelude.{ℕ, ◌+◌, ◌-◌, ◌==◌, ◌||◌, nat_eq, nat_lt, Bool, List, [], ◌∷◌, length, map, slice_get, sum_by, if◌then◌else◌}
 use Rattle.std.specs.{Prelude.{Option, Some, None, Result, Ok, Err, ℤ, int_lt}, Cmp.Lexicographic.pointwise, List.list_all}
 use Rattle.std.specs.Option.{option_eq}
@@ -7,9 +7,11 @@ use Rattle.bridge_io.specs.{Answer.and_then, Firsts.first_fault}
 use Rattle.hls_media.specs.{declared.media.Media.Media, declared.media.MediaSegment.MediaSegment}
 use Rattle.reload_law.specs.{Rules.{end_of, lawful, segments_from}, declared.unlawful.Unlawful.Unlawful as Rule}
 use Rattle.reload_law.specs.declared.unlawful.Unlawful.TheVariants.{ThreeTargets}
-use Rattle.hls_presentation.specs.{declared.fault.HlsFault.HlsFault, Tracks.{Source, segment_faults}}
-use Rattle.hls_follow.specs.{declared.fault.LiveFault.LiveFault, declared.fault.LiveFault.TheVariants.{Ended, ClockBack, NoMap, MapChanged}}
-use Rattle.hls_follow.specs.declared.fault.LiveFault.TheVariants.{ZeroDuration, SectionsDiffer, NoTracks, Unlawful, SectionBack, Limit}
+use Rattle.hls_presentation.specs.Tracks.{Source, segment_faults}
+use Rattle.layer_faults.specs.declared.hls.HlsFault.{HlsFault}
+use Rattle.layer_faults.specs.declared.live.LiveFault.{LiveFault}
+use Rattle.layer_faults.specs.declared.live.LiveFault.TheVariants.{Ended, ClockBack, NoMap, MapChanged}
+use Rattle.layer_faults.specs.declared.live.LiveFault.TheVariants.{ZeroDuration, SectionsDiffer, NoTracks, Unlawful, SectionBack, Limit}
 use Rattle.hls_follow.specs.{declared.state.Followed.Followed, declared.state.FollowedTrack.FollowedTrack, Faults.refused_if, Times.last_in}
 
 -- ---- the instant

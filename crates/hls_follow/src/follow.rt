@@ -43,7 +43,7 @@ impl Model for Follow {
 }
 
 /// How many segments an accepted round appended, of all kept tracks: those whose numbers are past every one before.
-#[derive(Clone, Copy, Debug, PartialEq, Eq)]
+#[derive(Clone, Copy, PartialEq, Eq)]
 pub struct Appended(pub u64);
 
 impl Follow {

@@ -12,7 +12,7 @@ use std::marker::Model;
 pub(crate) type Group<'a> = &'a [TimedSegment];
 
 /// The segments of one track, cut where the section changes.
-#[derive(Debug, Drop)]
+#[derive(Drop)]
 pub(crate) struct Groups<'a> {
     groups: Vec<Group<'a>>,
 }

@@ -15,7 +15,7 @@ use std::alloc::Global;
 use url_parts::Part;
 
 /// When a section begins, and when its longest track ends, from its start on.
-#[derive(Clone, Copy, Debug)]
+#[derive(Clone, Copy)]
 pub(crate) struct Extent {
     pub(crate) start: Nanos,
     pub(crate) longest: Nanos,

@@ -31,7 +31,7 @@ use iso_time::Instant;
 use std::alloc::Global;
 
 /// What an accepted round leaves.
-#[derive(Debug, Drop)]
+#[derive(Drop)]
 pub(crate) struct Round {
     /// What is followed from there on.
     pub(crate) followed: Followed,

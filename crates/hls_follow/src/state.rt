@@ -5,7 +5,7 @@ use exact_time::Nanos;
 use hls_media::{Media, MediaSegment};
 
 /// A kept track's last playlist.
-#[derive(Debug, Drop)]
+#[derive(Drop)]
 pub(crate) struct FollowedTrack {
     /// The playlist.
     pub(crate) media: Media,
@@ -17,7 +17,7 @@ pub(crate) struct FollowedTrack {
 pub(crate) type TimeList = Sequence<u64>;
 
 /// What the accepted rounds left.
-#[derive(Debug, Drop)]
+#[derive(Drop)]
 pub(crate) struct Followed {
     /// Which of the master's tracks are kept.
     pub(crate) kept: KeptList,
@@ -34,7 +34,7 @@ pub(crate) type KeptList = Sequence<bool>;
 pub(crate) type FollowedList = Sequence<FollowedTrack>;
 
 /// A segment of a playlist with its time.
-#[derive(Debug, Drop)]
+#[derive(Drop)]
 pub(crate) struct TimedSegment {
     /// The segment.
     pub(crate) segment: MediaSegment,
@@ -46,7 +46,7 @@ pub(crate) struct TimedSegment {
 pub(crate) type TimedList = Sequence<TimedSegment>;
 
 /// A segment behind which others come.
-#[derive(Clone, Copy, Debug)]
+#[derive(Clone, Copy)]
 pub(crate) struct Last {
     /// The number behind its own.
     pub(crate) next: u128,

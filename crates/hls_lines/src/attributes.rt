@@ -16,7 +16,7 @@ use std::collections::BTreeSet;
 use std::marker::Model;
 
 /// The attributes of a tag (RFC 8216 4.2): in a contract the list of their names and values, a value without its quotes.
-#[derive(Debug, Drop)]
+#[derive(Drop)]
 pub struct Attributes<'a> {
     pairs: Vec<(&'a str, &'a str)>,
 }

@@ -13,7 +13,7 @@ use bridge_io::Place;
 use std::marker::Model;
 
 /// A line of a playlist that is neither blank nor a comment (RFC 8216 4.1), without the spaces, tabs and CRs at its end.
-#[derive(Clone, Copy, Debug, PartialEq, Eq)]
+#[derive(Clone, Copy, PartialEq, Eq)]
 pub enum Line<'a> {
     /// A line that begins with `#EXT`.
     Tag {
@@ -37,7 +37,7 @@ pub enum Line<'a> {
 ///
 /// Lines end by LF, CRLF or the end of the file. Blank lines and comments, which begin with `#` and not with `#EXT`, are
 /// passed over. The first line is the tag `EXTM3U`.
-#[derive(Debug, Drop)]
+#[derive(Drop)]
 pub struct Lines<'a> {
     rest: &'a str,
     place: Place,

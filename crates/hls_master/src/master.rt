@@ -21,7 +21,7 @@ use std::marker::Model;
 use url_parts::Base;
 
 /// A master playlist: in a contract its tracks.
-#[derive(Debug, Drop)]
+#[derive(Drop)]
 pub struct Master {
     tracks: MasterTracks,
 }

@@ -18,7 +18,7 @@ use std::alloc::Global;
 use url_parts::Base;
 
 /// The renditions and the variants of a master, each in the order of the lines.
-#[derive(Debug, Drop)]
+#[derive(Drop)]
 pub(crate) struct Mentions<'a> {
     pub(crate) renditions: Vec<Rendition<'a>>,
     pub(crate) variants: Vec<Variant<'a>>,

@@ -10,7 +10,7 @@ use std::alloc::Global;
 use std::collections::BTreeSet;
 
 /// The kinds, groups and names of renditions.
-#[derive(Debug, Drop)]
+#[derive(Drop)]
 pub(crate) struct Names<'a> {
     keys: BTreeSet<(u8, &'a str, &'a str)>,
 }

@@ -20,7 +20,7 @@ use std::alloc::Global;
 use url_parts::{Address, Base};
 
 /// A rendition of audio or text (RFC 8216 4.3.4.1).
-#[derive(Debug, Drop)]
+#[derive(Drop)]
 pub struct Rendition<'a> {
     /// Audio or text, by TYPE.
     pub kind: Kind,

@@ -8,7 +8,7 @@ use std::collections::BTreeSet;
 use std::marker::Model;
 
 /// Texts, each once.
-#[derive(Debug, Drop)]
+#[derive(Drop)]
 pub(crate) struct Texts<'a> {
     texts: BTreeSet<&'a str>,
 }

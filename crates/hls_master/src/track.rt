@@ -15,7 +15,7 @@ use std::alloc::Global;
 use url_parts::Address;
 
 /// A track of a master.
-#[derive(Debug, Drop)]
+#[derive(Drop)]
 pub struct MasterTrack {
     /// What it holds.
     pub kind: Kind,

@@ -26,7 +26,7 @@ use std::alloc::Global;
 use url_parts::{Address, Base};
 
 /// A variant (RFC 8216 4.3.4.2).
-#[derive(Debug, Drop)]
+#[derive(Drop)]
 pub struct Variant<'a> {
     /// Where its EXT-X-STREAM-INF stands.
     pub place: Place,
@@ -43,7 +43,7 @@ pub struct Variant<'a> {
 }
 
 /// What a variant shows of its media.
-#[derive(Clone, Copy, Debug)]
+#[derive(Clone, Copy)]
 pub struct Shown<'a> {
     /// CODECS, a list of codes (RFC 6381).
     pub codecs: Option<&'a str>,

@@ -23,7 +23,7 @@ use url_parts::{Address, Base, Part, Range};
 pub type MediaList = Sequence<MediaSegment>;
 
 /// A media playlist.
-#[derive(Debug, Drop)]
+#[derive(Drop)]
 pub struct Media {
     /// The target duration in seconds, below 2^31 (RFC 8216 4.3.3.1).
     pub target: u64,
@@ -36,7 +36,7 @@ pub struct Media {
 }
 
 /// A segment of a playlist.
-#[derive(Debug, Drop)]
+#[derive(Drop)]
 pub struct MediaSegment {
     /// The address of its file.
     pub address: Address,

@@ -3,7 +3,7 @@ ghost use Rattle.std.specs.Prelude.{◌≡◌};
 ghost use Rattle.hls_media.specs.Tags as spec;
 
 /// What a tag of a playlist is for, by its name.
-#[derive(Clone, Copy, Debug)]
+#[derive(Clone, Copy)]
 pub(crate) enum Tag {
     TargetDuration,
     MediaSequence,

@@ -16,7 +16,9 @@ use Rattle.presentation.specs.Counting.{count_at, count_faults, count_of_all, co
 use Rattle.presentation.specs.Counting.{limit_faults, listed_count, number_in, place_at, section_faults, sections_of, track_faults}
 use Rattle.presentation.specs.{Counting.{tracks_of, unless_any, whole_track_faults}, declared.parts.Content.Content, Presented.Presented}
 use Rattle.presentation.specs.Presented.{of_parts, whole_window}
-use Rattle.hls_presentation.specs.{declared.fault.HlsFault.TheVariants.SectionsDiffer, Laid.{IsRow, in_row}, Laws.PlaylistsAreCounted}
+use Rattle.hls_presentation.specs.Laid.{IsRow, in_row}
+use Rattle.hls_presentation.specs.Laws.{PlaylistsAreCounted}
+use Rattle.layer_faults.specs.declared.hls.HlsFault.TheVariants.{SectionsDiffer}
 use Rattle.hls_presentation.specs.Presenting.{content_of, contents_of, flattened, hls_presented_of, nanos_by_tick, parts_with}
 use Rattle.hls_presentation.specs.{Presenting.{presented_from, presented_of_kept, ticks_by_second, track_of}, Sections.all_alike}
 use Rattle.hls_presentation.specs.{Sections.{group_at, groups_in, rows_of, section_count, whole_faults}, Tracks.{Source, is_kept, kept}}

@@ -6,7 +6,9 @@ use Rattle.std.proofs.{lemmas.List.Elements.All-tail, lemmas.List.Sums.sum_by-co
 use Rattle.std.specs.{List.{range_with_len, sum_by}, Option.option_map_or}
 use Rattle.bridge_io.proofs.AndThen.{steps_of}
 use Rattle.hls_media.specs.declared.media.MediaSegment.{MediaSegment}
-use Rattle.hls_presentation.specs.{declared.fault.HlsFault.HlsFault, Presenting.{flattened, gathered}, Sections.{group_at, groups_of}}
+use Rattle.hls_presentation.specs.Presenting.{flattened, gathered}
+use Rattle.hls_presentation.specs.Sections.{group_at, groups_of}
+use Rattle.layer_faults.specs.declared.hls.HlsFault.{HlsFault}
 use Rattle.hls_presentation.specs.Sections.{put_before, row_at}
 
 -- ---- sums

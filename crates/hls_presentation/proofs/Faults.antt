@@ -1,8 +1,9 @@
 -- The first of some faults.
 use Rattle.std.proofs.Common.{◌≡◌, List, [], ◌∷◌, ◌++◌, Result, Ok, Err, refl, ap}
 use Rattle.bridge_io.specs.{Answer.Gives, Firsts.first_fault}
-use Rattle.hls_presentation.specs.{declared.fault.HlsFault.HlsFault, declared.fault.HlsFault.TheVariants.{NotEnded, NoMap, MapChanged}}
-use Rattle.hls_presentation.specs.declared.fault.HlsFault.TheVariants.{ZeroDuration, SectionsDiffer, Limit, NoTracks, Memory}
+use Rattle.layer_faults.specs.declared.hls.HlsFault.{HlsFault}
+use Rattle.layer_faults.specs.declared.hls.HlsFault.TheVariants.{NotEnded, NoMap, MapChanged}
+use Rattle.layer_faults.specs.declared.hls.HlsFault.TheVariants.{ZeroDuration, SectionsDiffer, Limit, NoTracks, Memory}
 use Rattle.hls_presentation.specs.Presenting.{refusal, unless_any}
 
 pub passed : (faults more : List HlsFault) → first_fault faults ≡ Ok tt → first_fault (faults ++ more) ≡ first_fault more

@@ -3,7 +3,8 @@ use Rattle.std.proofs.Common.{◌≡◌, suc, List, [], ◌∷◌, ◌++◌, len
 use Rattle.std.proofs.{lemmas.List.append-nil, lemmas.Option.IfSome_then, lemmas.List.Elements.{All-nil, All-cons}}
 use Rattle.bridge_io.proofs.AndThen.{steps_of}
 use Rattle.bridge_io.specs.Answer.{and_then}
-use Rattle.hls_presentation.specs.{declared.fault.HlsFault.HlsFault, Presenting.{behind, gathered, refusal}}
+use Rattle.hls_presentation.specs.Presenting.{behind, gathered, refusal}
+use Rattle.layer_faults.specs.declared.hls.HlsFault.{HlsFault}
 
 behind_twice : {Y : Type 0} (before : List Y) (y : Y) (r : Result (List Y) HlsFault)
     → behind before (and_then r (λ ys. Ok (y ∷ ys))) ≡ behind (before ++ y ∷ []) r

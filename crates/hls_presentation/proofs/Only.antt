@@ -7,8 +7,10 @@ use Rattle.bridge_io.specs.Firsts.{first_fault}
 use Rattle.hls_media.specs.{Laws.IsBounded, declared.media.Media.Media}
 use Rattle.hls_master.specs.declared.track.MasterTrack.{MasterTrack}
 use Rattle.presentation.specs.declared.parts.Content.{Content}
-use Rattle.hls_presentation.specs.{declared.fault.HlsFault.HlsFault, declared.fault.HlsFault.TheVariants.{Limit, MapChanged, NoMap}}
-use Rattle.hls_presentation.specs.{declared.fault.HlsFault.TheVariants.{NotEnded, SectionsDiffer, ZeroDuration}, Laws.OnlyFaultsAreRefused}
+use Rattle.layer_faults.specs.declared.hls.HlsFault.{HlsFault}
+use Rattle.layer_faults.specs.declared.hls.HlsFault.TheVariants.{Limit, MapChanged, NoMap}
+use Rattle.hls_presentation.specs.Laws.{OnlyFaultsAreRefused}
+use Rattle.layer_faults.specs.declared.hls.HlsFault.TheVariants.{NotEnded, SectionsDiffer, ZeroDuration}
 use Rattle.hls_presentation.specs.Presenting.{are_micros, content_of, contents_of, flattened, gathered, hls_presented_of, is_micros}
 use Rattle.hls_presentation.specs.{Presenting.{nanos_by_tick, presented_from, presented_of_kept, unless_any}, Sections.all_alike}
 use Rattle.hls_presentation.specs.{Sections.{groups_in, is_over_limit, rows_of, whole_faults}, Tracks.{Source, fault_if, faults_of}}

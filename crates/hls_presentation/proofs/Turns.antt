@@ -8,7 +8,9 @@ use Rattle.hls_master.specs.declared.track.MasterTrack.{MasterTrack}
 use Rattle.hls_media.specs.{declared.media.Media.Media, declared.media.MediaSegment.MediaSegment}
 use Rattle.presentation.specs.{declared.parts.Content.Content, declared.track.Section.Section, declared.track.Track.Track}
 use Rattle.presentation.specs.{Origins.CameFromPlaylists, Presented.{Presented, AreFilled, of_parts}}
-use Rattle.hls_presentation.specs.{declared.fault.HlsFault.HlsFault, Origins.IsSilentTrack, Presenting.{behind, content_of, contents_of}}
+use Rattle.hls_presentation.specs.Origins.{IsSilentTrack}
+use Rattle.hls_presentation.specs.Presenting.{behind, content_of, contents_of}
+use Rattle.layer_faults.specs.declared.hls.HlsFault.{HlsFault}
 use Rattle.hls_presentation.specs.Presenting.{flattened, gathered, hls_presented_of, nanos_by_tick, parts_with, presented_from, refusal}
 use Rattle.hls_presentation.specs.{Presenting.{sections_from, track_of}, Sections.{group_at, groups_in, groups_of, row_at, row_length}}
 use Rattle.hls_presentation.specs.{Sections.{rows_from, rows_of}, Tracks.Source}

@@ -4,7 +4,8 @@ use Rattle.bridge_io.specs.Firsts.{first_fault}
 use Rattle.hls_master.specs.declared.track.MasterTrack.{MasterTrack}
 use Rattle.hls_media.specs.{Laws.IsBounded, declared.media.Media.Media}
 use Rattle.presentation.specs.{Counting.{counted, count_of_all}, Presented.Presented}
-use Rattle.hls_presentation.specs.{declared.fault.HlsFault.HlsFault, Presenting.{faults_in, hls_presented_of}}
+use Rattle.hls_presentation.specs.Presenting.{faults_in, hls_presented_of}
+use Rattle.layer_faults.specs.declared.hls.HlsFault.{HlsFault}
 
 -- Of playlists that are read nothing is refused but for the faults of tracks and of the whole, and their segments always
 -- have times.

@@ -12,7 +12,8 @@ use Rattle.hls_media.specs.{declared.media.Media.Media, declared.media.MediaSegm
 use Rattle.hls_master.specs.declared.track.MasterTrack.{MasterTrack}
 use Rattle.presentation.specs.{declared.parts.Content.Content, declared.parts.Parts.Parts, declared.track.Track.Track}
 use Rattle.presentation.specs.{declared.track.Section.Section, Presented.{Presented, of_parts}}
-use Rattle.hls_presentation.specs.{declared.fault.HlsFault.HlsFault, declared.fault.HlsFault.TheVariants.{NoMap, Limit, Memory}}
+use Rattle.layer_faults.specs.declared.hls.HlsFault.{HlsFault}
+use Rattle.layer_faults.specs.declared.hls.HlsFault.TheVariants.{NoMap, Limit, Memory}
 use Rattle.hls_presentation.specs.{Tracks.{Source, sources, kept, left_out, track_faults}, Sections.{groups_in, row_length, rows_of}}
 use Rattle.hls_presentation.specs.Sections.{whole_faults}
 

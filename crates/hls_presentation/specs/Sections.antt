@@ -2,7 +2,8 @@
 use Rattle.std.specs.Prelude.{ℕ, ◌==◌, ◌^◌, ◌||◌, not, nat_le, nat_lt, max, Bool, true, false, List, [], ◌∷◌, ◌++◌, length, map, slice_get}
 use Rattle.std.specs.{Prelude.{sum_by, unwrap_or, if◌then◌else◌}, List.{list_any, list_all, range_with_len}}
 use Rattle.hls_media.specs.declared.media.MediaSegment.{MediaSegment}
-use Rattle.hls_presentation.specs.{declared.fault.HlsFault.HlsFault, declared.fault.HlsFault.TheVariants.{SectionsDiffer, Limit, NoTracks}}
+use Rattle.layer_faults.specs.declared.hls.HlsFault.{HlsFault}
+use Rattle.layer_faults.specs.declared.hls.HlsFault.TheVariants.{SectionsDiffer, Limit, NoTracks}
 use Rattle.hls_presentation.specs.Tracks.{Source, fault_if}
 
 -- the segment is of this section

@@ -5,8 +5,9 @@ use Rattle.bridge_io.specs.{declared.media.Kind.Kind, declared.media.Kind.TheVar
 use Rattle.url_parts.specs.{declared.address.Part.Part, declared.range.Range.Range}
 use Rattle.hls_media.specs.{declared.media.Media.Media, declared.media.MediaSegment.MediaSegment}
 use Rattle.hls_master.specs.declared.track.MasterTrack.{MasterTrack}
-use Rattle.hls_presentation.specs.{declared.fault.HlsFault.HlsFault, declared.fault.HlsFault.TheVariants.{NotEnded, NoMap, MapChanged}}
-use Rattle.hls_presentation.specs.declared.fault.HlsFault.TheVariants.{ZeroDuration}
+use Rattle.layer_faults.specs.declared.hls.HlsFault.{HlsFault}
+use Rattle.layer_faults.specs.declared.hls.HlsFault.TheVariants.{NotEnded, NoMap, MapChanged}
+use Rattle.layer_faults.specs.declared.hls.HlsFault.TheVariants.{ZeroDuration}
 
 -- a track of a master with its media playlist
 pub record Source : Type 0 where

@@ -21,7 +21,7 @@ use timeline::{Names, PartList, Runs, Scale, Span, SpanList, TimeFault};
 use url_parts::Part;
 
 /// How times are counted.
-#[derive(Clone, Copy, Debug)]
+#[derive(Clone, Copy)]
 pub(crate) struct Ticks {
     /// The nanoseconds of a tick.
     nanos: u64,

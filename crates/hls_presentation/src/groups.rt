@@ -16,7 +16,7 @@ use std::marker::Model;
 pub(crate) type Segments<'a> = &'a [MediaSegment];
 
 /// The segments of one track, cut where the section changes.
-#[derive(Debug, Drop)]
+#[derive(Drop)]
 pub(crate) struct Groups<'a> {
     groups: Vec<Segments<'a>>,
 }

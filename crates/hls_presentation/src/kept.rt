@@ -10,7 +10,7 @@ use hls_media::{Media, MediaSegment};
 use std::alloc::Global;
 
 /// A track of a master with its media playlist.
-#[derive(Clone, Copy, Debug)]
+#[derive(Clone, Copy)]
 pub struct Source<'a> {
     /// The master's track.
     pub track: &'a MasterTrack,

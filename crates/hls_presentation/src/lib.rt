@@ -3,7 +3,6 @@
 
 mod checks;
 mod contents;
-mod fault;
 mod groups;
 mod kept;
 mod laws;
@@ -11,10 +10,10 @@ mod playlists;
 mod tracks;
 
 pub use checks::{check_segments, check_so_far};
-pub use fault::HlsFault;
 pub use kept::{Source, is_left_out, kept_of, lacks_maps, left_out_of, sources_of};
 pub use laws::{
     only_faults_are_refused, playlists_are_counted, presented_are_laid_out, what_is_read_is_silent,
 };
+pub use layer_faults::HlsFault;
 pub use playlists::{MediaFiles, from_hls};
 pub use tracks::{track_of, tracks_of};

@@ -1,10 +1,10 @@
 -- The renditions of a master (RFC 8216, 4.3.4.1).
 use Rattle.bridge_io.specs.declared.media.Kind.TheVariants as kind
-use Rattle.std.specs.Prelude.{ℕ, ◌+◌, ◌==◌, ◌&&◌, Bool, false, List, [], ◌∷◌, ◌++◌, map, take, slice_get, position, count_by, if◌then◌else◌}
-use Rattle.std.specs.{Prelude.{Option, Some, option_map, option_and_then, option_to_list, unwrap_or}, List.{flat_map, list_any}}
-use Rattle.std.specs.Option.{option_map_or}
+use Rattle.std.specs.Prelude.{ℕ, ◌+◌, ◌==◌, ◌&&◌, Bool, false, List, [], ◌∷◌, ◌++◌, map, take, slice_get, position, count_by}
+use Rattle.std.specs.Prelude.{if◌then◌else◌, Option, Some, option_map, option_and_then, option_to_list, unwrap_or}
+use Rattle.std.specs.{List.{flat_map, list_any}, Option.option_map_or}
 use Rattle.bridge_io.specs.declared.media.Kind.{Kind}
-use Rattle.presentation.specs.{declared.track.Track.Track, Groups.{is_audio, is_alike, has_codes_of}, Rows.is_of}
+use Rattle.presentation.specs.{declared.track.Track.Track, Groups.{is_audio, is_alike, has_codes_of}, Order.is_of}
 use Rattle.hls_writer.specs.Attributes.{WrittenAttribute, media_type, group_id, name, language, default, autoselect, playlist}
 use Rattle.hls_writer.specs.{Lines.{WrittenLine, rendition, line_text}, declared.attribute.RenditionGroup.RenditionGroup}
 use Rattle.hls_writer.specs.{declared.attribute.RenditionGroup.TheVariants.{Audio, Subtitles}, declared.keys.Key.Key}

@@ -21,7 +21,7 @@ use std::alloc::Global;
 use url_parts::{Address, Part, Range};
 
 /// What stands above the segments of a followed playlist, and whether no segment follows.
-#[derive(Clone, Copy, Debug)]
+#[derive(Clone, Copy)]
 pub struct MediaHead {
     /// The target duration in seconds (RFC 8216, 4.3.3.1).
     pub target: u64,
@@ -36,7 +36,7 @@ pub struct MediaHead {
 }
 
 /// A segment of a followed playlist.
-#[derive(Debug, Drop)]
+#[derive(Drop)]
 pub struct MediaItem {
     /// Where it lies.
     pub address: Address,

@@ -1,7 +1,7 @@
 // The renditions of a master.
 ghost use Rattle.std.specs.Prelude.{◌≡◌, [], IfOk, position, option_map};
 ghost use Rattle.bridge_io.specs.declared.media.Kind.TheVariants.{Text};
-ghost use Rattle.presentation.specs.Rows.{is_of};
+ghost use Rattle.presentation.specs.Order.{is_of};
 ghost use Rattle.hls_writer.specs.AttributeRows.{told, all_told};
 ghost use Rattle.hls_writer.specs.Renditions as spec;
 

@@ -1,14 +1,15 @@
 -- A presentation that is made track by track is the one that is meant.
-use Rattle.std.proofs.Common.{◌≡◌, ℕ, suc, Bool, true, false, nat_lt, List, [], ◌∷◌, ◌++◌, cond, filter, length, map, if◌then◌else◌, Result}
-use Rattle.std.proofs.{Common.{Ok, Err, refl, sym, ◌∙◌, ap}, lemmas.List.length-map}
+use Rattle.std.proofs.Common.{◌≡◌, ℕ, suc, Bool, true, false, nat_lt, List, [], ◌∷◌, ◌++◌, cond, filter, length, map, if◌then◌else◌}
+use Rattle.std.proofs.{Common.{Result, Ok, Err, refl, sym, ◌∙◌, ap}, lemmas.List.length-map}
 use Rattle.bridge_io.proofs.AndThen.{steps_of}
 use Rattle.bridge_io.specs.{Answer.and_then, declared.media.Kind.Kind, declared.media.Kind.TheVariants.{Video, Audio, Text}, Outside.Files}
 use Rattle.presentation.specs.{declared.fault.PresentationFault.TheVariants.Limit, declared.track.Track.Track, Presented.Presented}
-use Rattle.presentation.specs.Rows.{in_order, is_of, track_of}
+use Rattle.presentation.specs.Order.{is_of}
+use Rattle.mpd_presentation.specs.Rows.{in_order, track_of}
 use Rattle.index_parts.specs.{declared.fault.IndexFault.IndexFault, declared.fault.IndexFault.TheVariants.Presentation}
-use Rattle.index_parts.specs.{declared.located.Listed.Listed, declared.parts.Gathering.Gathering, Kept.{all_gathered, all_kept, keep}}
-use Rattle.index_parts.specs.{Kept.{kept_with, kind_kept, none_kept, presented_kept, presented_of}, Located.track_parts}
-use Rattle.index_parts.specs.{Presented.{all_parts, few_segments, presented_in, presented_with}, Rows.{Period, Row}}
+use Rattle.index_parts.specs.{declared.located.Listed.Listed, declared.parts.Gathering.Gathering}
+use Rattle.index_parts.specs.Kept.{all_gathered, all_kept, keep, kept_with, kind_kept, none_kept, presented_kept, presented_of}
+use Rattle.index_parts.specs.{Located.track_parts, Presented.{all_parts, few_segments, presented_in, presented_with}, Rows.{Period, Row}}
 use Rattle.index_parts.proofs.Kept.{finished, keep_all}
 
 then_same : {X Y : Type 0} (r : Result X IndexFault) (f g : X → Result Y IndexFault) → ((x : X) → f x ≡ g x) → and_then r f ≡ and_then r g

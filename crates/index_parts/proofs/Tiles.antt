@@ -1,22 +1,24 @@
 -- Segments are what the references of an index cover.
-use Rattle.std.proofs.Common.{◌≡◌, ◌<◌, ℕ, zero, suc, ◌+◌, ◌==◌, List, [], ◌∷◌, ◌++◌, flat_map, length, map, take, drop, All, Option, Some}
-use Rattle.std.proofs.{Common.{None, if◌then◌else◌, Ok, refl, sym, ◌∙◌, ap, subst, arith}, lemmas.List.Elements.{All-cons, All-nil}}
+use Rattle.std.proofs.Common.{◌≡◌, ◌<◌, ℕ, zero, suc, ◌+◌, ◌==◌, List, [], ◌∷◌, ◌++◌, flat_map, length, map, take, drop, All, Option}
+use Rattle.std.proofs.{Common.{Some, None, if◌then◌else◌, Ok, refl, sym, ◌∙◌, ap, subst, arith}, lemmas.List.Elements.{All-cons, All-nil}}
 use Rattle.bridge_io.proofs.AndThen.{steps_of}
-use Rattle.bridge_io.specs.Outside.{Files}
+use Rattle.bridge_io.specs.{Outside.Files, Answer.told_as}
 use Rattle.box_reader.specs.{Boxes.Left, Parts.part_of as part_read}
 use Rattle.segment_index.specs.{declared.reference.Reference.Reference, Index.{Index, index_of}, Laws.{Tile, end_from}}
 use Rattle.timeline.specs.{declared.fault.TimeFault.TimeFault, Expansions.SegmentTimeline}
 use Rattle.timeline.proofs.OpenEnds.{no_fault}
 use Rattle.url_parts.specs.{Addresses.{chain, local_name_of}, declared.address.Part.Part}
-use Rattle.presentation.specs.Told.{told_as}
 use Rattle.presentation.proofs.Filling.{ok_under}
-use Rattle.index_parts.specs.{declared.fault.FileFault.FileFault, declared.fault.FileFault.TheVariants.{Absent, Boxes, Scale}}
+use Rattle.layer_faults.specs.declared.index.FileFault.{FileFault}
+use Rattle.layer_faults.specs.declared.index.FileFault.TheVariants.{Absent, Boxes, Scale}
 use Rattle.index_parts.specs.{declared.fault.IndexFault.TheVariants.File, declared.located.Listed.Listed, declared.located.Located.Located}
 use Rattle.index_parts.specs.Found.{empty_faults, found_in, if_there, index_faults, index_in, range_faults, reference_faults}
-use Rattle.index_parts.specs.{Laws.{IsIndexed, LastAs, SegmentsTile, bytes_of}, Located.{address_of, if_named, initialization_by}}
-use Rattle.index_parts.specs.Located.{initialization_of, listed_at, listed_by, listed_in, located_of, located_with, read_of, track_parts}
-use Rattle.index_parts.specs.{Located.unless_long, Refusals.{times_fault, unless_any, url_fault}, Rows.{Row, told_in}}
-use Rattle.index_parts.specs.Segments.{extents_from, extents_in, fault_of, part_of, parts_from, parts_in, runs_of, ticks_of, timeline_with}
+use Rattle.index_parts.specs.Laws.{IsIndexed, LastAs, SegmentsTile, bytes_of}
+use Rattle.index_parts.specs.Located.{address_of, if_named, initialization_by, initialization_of, listed_at, listed_by, listed_in}
+use Rattle.index_parts.specs.Located.{located_of, located_with, read_of, track_parts, unless_long}
+use Rattle.index_parts.specs.{Refusals.{times_fault, unless_any, url_fault}, Rows.{Row, told_in}}
+use Rattle.index_parts.specs.Segments.{extents_from, extents_in, fault_of, part_of, parts_from, parts_in, runs_of, ticks_of}
+use Rattle.index_parts.specs.Segments.{timeline_with}
 use Rattle.index_parts.proofs.Ends.{passed_value}
 
 -- ---- one behind another

@@ -1,11 +1,12 @@
 -- The index of a file, or why it tells no segments: ISO/IEC 14496-12, 8.16.3.
-use Rattle.std.specs.Prelude.{◌^◌, ◌==◌, nat_lt, List, [], ◌∷◌, ◌++◌, length, flat_map, if◌then◌else◌, Option, Some, None, Result, Ok, Err}
-use Rattle.bridge_io.specs.Answer.{and_then}
+use Rattle.std.specs.Prelude.{◌^◌, ◌==◌, nat_lt, List, [], ◌∷◌, ◌++◌, length, flat_map, if◌then◌else◌, Option, Some, None, Result, Ok}
+use Rattle.std.specs.Prelude.{Err}
+use Rattle.bridge_io.specs.Answer.{and_then, told_as}
 use Rattle.box_reader.specs.Boxes.{Left}
 use Rattle.segment_index.specs.{declared.reference.Reference.Reference, Index.{Index, index_of}, Laws.end_from}
-use Rattle.presentation.specs.Told.{told_as}
-use Rattle.index_parts.specs.{declared.fault.FileFault.FileFault, declared.fault.FileFault.TheVariants.{Boxes, NoIndex, Scale, Empty}}
-use Rattle.index_parts.specs.{declared.fault.FileFault.TheVariants.{Nested, ZeroSize, Range}, Refusals.unless_any}
+use Rattle.layer_faults.specs.declared.index.FileFault.{FileFault}
+use Rattle.layer_faults.specs.declared.index.FileFault.TheVariants.{Boxes, NoIndex, Scale, Empty, Nested, ZeroSize, Range}
+use Rattle.index_parts.specs.Refusals.{unless_any}
 
 abbrev pub scale_faults : Index → List FileFault
 scale_faults index = if index.timescale == 0 then Scale index.at ∷ [] else []

@@ -2,10 +2,11 @@
 use Rattle.std.specs.Prelude.{ℕ, ◌+◌, ◌-◌, ◌^◌, ◌==◌, min, nat_lt, List, [], ◌∷◌, ◌++◌, length, map, if◌then◌else◌, Result, Ok, Err}
 use Rattle.bridge_io.specs.{Answer.and_then, declared.media.Kind.Kind, declared.media.Kind.TheVariants.{Video, Audio, Text}, Outside.Files}
 use Rattle.presentation.specs.{declared.fault.PresentationFault.TheVariants.Limit, declared.parts.Content.Content}
-use Rattle.presentation.specs.{declared.track.Track.Track, Presented.Presented, Rows.{in_order, is_of, track_of}}
+use Rattle.presentation.specs.{declared.track.Track.Track, Presented.Presented, Order.is_of}
+use Rattle.mpd_presentation.specs.Rows.{in_order, track_of}
 use Rattle.index_parts.specs.{declared.fault.IndexFault.IndexFault, declared.fault.IndexFault.TheVariants.Presentation}
-use Rattle.index_parts.specs.{declared.located.Listed.Listed, declared.parts.Gathering.Gathering, Located.track_parts, Presented.few_tracks}
-use Rattle.index_parts.specs.{Presented.presented_with, Rows.{Period, Row}}
+use Rattle.index_parts.specs.{declared.located.Listed.Listed, declared.parts.Gathering.Gathering, Located.track_parts}
+use Rattle.index_parts.specs.{Presented.{few_tracks, presented_with}, Rows.{Period, Row}}
 
 abbrev pub none_kept : Gathering
 none_kept = record { contents = []; segments = 0 }

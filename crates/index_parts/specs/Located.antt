@@ -1,6 +1,6 @@
 -- What an MPD tells of a media file with an index inside, and what a Representation has by it: ISO/IEC 23009-1, 5.3.9.2.
 use Rattle.std.specs.Prelude.{ℕ, nat_lt, List, length, if◌then◌else◌, Option, Some, None, Result, Ok, Err}
-use Rattle.bridge_io.specs.{Answer.and_then, Outside.Files}
+use Rattle.bridge_io.specs.{Answer.{and_then, told_as}, Outside.Files}
 use Rattle.box_reader.specs.Parts.{part_of}
 use Rattle.segment_index.specs.Index.{Index}
 use Rattle.url_parts.specs.{Addresses.{chain, local_name_of}, declared.address.Part.Part, declared.fault.UrlFault.UrlFault}
@@ -8,8 +8,9 @@ use Rattle.url_parts.specs.declared.range.Range.{Range}
 use Rattle.timeline.specs.Names.{referred}
 use Rattle.mpd_levels.specs.declared.initialization.Initialization.{Initialization}
 use Rattle.mpd_rules.specs.{declared.rows.Description.Description, Indexes.Index as IndexTold}
-use Rattle.presentation.specs.Told.{part_with, told_as}
-use Rattle.index_parts.specs.{declared.fault.FileFault.TheVariants.Absent, declared.fault.IndexFault.IndexFault}
+use Rattle.presentation.specs.Meanings.{part_with}
+use Rattle.index_parts.specs.declared.fault.IndexFault.{IndexFault}
+use Rattle.layer_faults.specs.declared.index.FileFault.TheVariants.{Absent}
 use Rattle.index_parts.specs.{declared.fault.IndexFault.TheVariants.{OutsideBase, TooLong, File}, declared.located.Listed.Listed}
 use Rattle.index_parts.specs.{declared.located.Located.Located, Found.index_in, Refusals.{times_fault, url_fault}, Rows.{Row, told_in}}
 use Rattle.index_parts.specs.Segments.{runs_of}

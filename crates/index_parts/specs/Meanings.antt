@@ -6,8 +6,9 @@ use Rattle.exact_time.specs.Time.{in_units}
 use Rattle.meaning.specs.Meanings.{Entry, Meaning, Segment}
 use Rattle.mpd_levels.specs.{declared.indexed.IndexRow.IndexRow, declared.initialization.Initialization.Initialization}
 use Rattle.mpd_rules.specs.{Indexes.Index as IndexTold, Rules.index_values, Typed.TypedMpd}
-use Rattle.mpd_text.specs.Meaning.{reading_of}
-use Rattle.presentation.specs.{Meanings.{Head, address_by, deepest, head_with, meaning_with}, Rows.in_order, Told.part_with}
+use Rattle.mpd_tree.specs.Meaning.{reading_of}
+use Rattle.presentation.specs.Meanings.{Head, address_by, deepest, head_with, meaning_with, part_with}
+use Rattle.mpd_presentation.specs.Rows.{in_order}
 use Rattle.segment_index.specs.{declared.reference.Reference.Reference, Index.{Index, index_of}}
 use Rattle.url_parts.specs.{Addresses.local_name_of, declared.address.Part.Part, declared.range.Range.Range}
 use Rattle.index_parts.specs.{Located.part_before, Rows.{Period, Row, told_in}, Segments.part_of}

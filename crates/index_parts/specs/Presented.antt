@@ -4,7 +4,8 @@ use Rattle.bridge_io.specs.{Answer.and_then, Outside.Files}
 use Rattle.mpd_levels.specs.declared.indexed.IndexRow.{IndexRow}
 use Rattle.mpd_rules.specs.Typed.{TypedMpd}
 use Rattle.presentation.specs.{declared.fault.PresentationFault.TheVariants.Limit, declared.parts.Content.Content}
-use Rattle.presentation.specs.{declared.track.Track.Track, Presented.{Presented, of_parts}, Rows.{in_order, section_of, track_of}}
+use Rattle.presentation.specs.{declared.track.Track.Track, Presented.{Presented, of_parts}}
+use Rattle.mpd_presentation.specs.Rows.{in_order, section_of, track_of}
 use Rattle.index_parts.specs.{declared.fault.IndexFault.IndexFault, declared.fault.IndexFault.TheVariants.Presentation}
 use Rattle.index_parts.specs.{declared.located.Listed.Listed, Located.track_parts, Rows.{Period, Row}}
 

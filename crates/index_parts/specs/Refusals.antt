@@ -5,7 +5,7 @@ use Rattle.std.specs.Prelude.{List, [], ◌∷◌, Option, Some, None, Result, O
 use Rattle.bridge_io.specs.declared.place.Place.{Place}
 use Rattle.url_parts.specs.declared.fault.UrlFault.{UrlFault}
 use Rattle.timeline.specs.declared.fault.TimeFault.{TimeFault}
-use Rattle.presentation.specs.Told.{at_times, at_url}
+use Rattle.mpd_presentation.specs.Told.{at_times, at_url}
 use Rattle.index_parts.specs.{declared.fault.IndexFault.IndexFault, declared.fault.IndexFault.TheVariants.{Presentation, Fault, Memory}}
 
 -- a read that failed and want of memory tell nothing of the files

@@ -10,6 +10,7 @@ mod located;
 mod parts;
 mod segments;
 
-pub use fault::{FileFault, IndexFault};
+pub use fault::IndexFault;
 pub use laws::segments_tile;
+pub use layer_faults::index::FileFault;
 pub use parts::index_parts;

@@ -29,14 +29,14 @@ use url_parts::{Address, Base, Part, Range, UrlFault, local_name};
 const MOST_BYTES: u64 = 8_388_608;
 
 /// What a Representation has, and how many segments that are.
-#[derive(Debug, Drop)]
+#[derive(Drop)]
 pub(crate) struct Listed {
     pub(crate) content: Content,
     pub(crate) segments: u64,
 }
 
 /// What an MPD tells of a Representation's file.
-#[derive(Debug, Drop)]
+#[derive(Drop)]
 pub(crate) struct Located {
     address: Address,
     initialization: Part,
@@ -49,7 +49,7 @@ pub(crate) struct Located {
 }
 
 /// Where an MPD lies, and the files that it tells of.
-#[derive(Clone, Copy, Debug)]
+#[derive(Clone, Copy)]
 pub(crate) struct Setting<'a> {
     /// The MPD's own URL.
     pub(crate) url: &'a Base,
@@ -234,7 +234,7 @@ fn part_before(alloc: Global, base: &Base, index: Range) -> Result<Part, NoMemor
 }
 
 /// The address of a reference against a base. An absent one is the base itself.
-#[tactic(auto, using(presentation::proofs::OwnAddress::own_address))]
+#[tactic(auto, using(mpd_presentation::proofs::OwnAddress::own_address))]
 fn refer(alloc: Global, base: &Base, reference: Option<&str>) -> Result<Address, UrlFault>
     ensures { Gives (λ address. address) url_refusal result (referred base.now (option_map (λ text. text.now) reference.entry)) }
 {
@@ -245,7 +245,7 @@ fn refer(alloc: Global, base: &Base, reference: Option<&str>) -> Result<Address,
 }
 
 /// The address that a base is, which is refused for want of memory alone.
-#[tactic(auto, using(presentation::proofs::OwnAddress::own_address))]
+#[tactic(auto, using(mpd_presentation::proofs::OwnAddress::own_address))]
 fn address_of(alloc: Global, base: &Base) -> Result<Address, NoMemory>
     ensures { IfOk result (λ address. address ≡ base.now) }
 {

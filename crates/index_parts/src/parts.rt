@@ -5,7 +5,8 @@ ghost use Rattle.bridge_io.specs.Answer.{Gives};
 ghost use Rattle.bridge_io.specs.Fault.{HasCause};
 ghost use Rattle.mpd_rules.specs.Views.{index_mpd, period_in};
 ghost use Rattle.presentation.specs.Presented.{IsEnded};
-ghost use Rattle.presentation.specs.Rows.{in_order, is_of, section_of, track_of};
+ghost use Rattle.mpd_presentation.specs.Rows.{in_order, section_of, track_of};
+ghost use Rattle.presentation.specs.Order.{is_of};
 ghost use Rattle.index_parts.specs.declared.fault.IndexFault.TheVariants.{Fault};
 ghost use Rattle.index_parts.specs.Kept as kept;
 ghost use Rattle.index_parts.specs.Presented as spec;
@@ -15,11 +16,9 @@ ghost use Rattle.index_parts.specs.Rows.{period_of, row_of, rows_left};
 use crate::IndexFault;
 use crate::located::{Listed, Setting};
 use bridge_io::{Kind, NoMemory, Store};
+use mpd_presentation::{section_in, tracks_in};
 use mpd_rules::{IndexedMpd, IndexedPeriod, IndexedRep, IndexedWalk};
-use presentation::{
-    ContentList, Parts, Presentation, PresentationFault, SectionList, TrackList, section_in,
-    tracks_in,
-};
+use presentation::{ContentList, Parts, Presentation, PresentationFault, SectionList, TrackList};
 use std::alloc::Global;
 use url_parts::Base;
 
@@ -30,7 +29,7 @@ const TRACK_LIMIT: usize = 200;
 const SEGMENT_LIMIT: u64 = 500_000;
 
 /// What tracks have. Contents past the limit of segments aren't kept.
-#[derive(Debug, Drop)]
+#[derive(Drop)]
 pub(crate) struct Gathering {
     contents: ContentList,
     /// How many segments there are, those that aren't kept among them, up to the last value of the counter.

@@ -157,7 +157,7 @@ pub fn read_duration(text: &str) -> Result<Nanos, DurationFault>
 const MAX_LEN: usize = 23;
 
 /// The text of a duration. In a contract it is its bytes.
-#[derive(Debug, Drop)]
+#[derive(Drop)]
 pub struct DurationText {
     text: ArrayString<MAX_LEN>,
 }

@@ -11,7 +11,8 @@ use Rattle.bridge_courses.specs.{Courses.{Course, Makes, Reaches, Step, World, l
 use Rattle.bridge_courses.specs.{declared.ending.Ending.Ending, declared.status.Verdict.Verdict}
 use Rattle.bridge_report.specs.Following.{Followed, verdict_by}
 use Rattle.live_meaning.specs.{States.State, Updates.Terms}
-use Rattle.bridge_steps.specs.{Follow.follow_course, LiveMpds.{followed_mpd, frame_stream}}
+use Rattle.bridge_steps.specs.Follow.{follow_course}
+use Rattle.bridge_live.specs.LiveMpds.{followed_mpd, frame_stream}
 use Rattle.laws_of_jobs.specs.Counts.{FollowCountsSegments, MadeBeyond, MadeBy, MadeOf, MadeWanting, appended_to, refused_to}
 use Rattle.laws_of_jobs.specs.Histories.{followed_at, frames_in}
 use Rattle.bridge_core.specs.Follow.{terms_at}

@@ -5,7 +5,8 @@ use Rattle.bridge_courses.specs.Courses.{Course}
 use Rattle.url_parts.specs.Addresses.{absolute}
 use Rattle.bridge_playlists.specs.{declared.place.StorePlace.StorePlace, Places.store_place_of}
 use Rattle.bridge_jobs.specs.Frames.{frames_of}
-use Rattle.bridge_steps.specs.{Follow.{course_placed, fault_line, follow_course}, LiveMpds.frame_stream}
+use Rattle.bridge_steps.specs.Follow.{course_placed, fault_line, follow_course}
+use Rattle.bridge_live.specs.LiveMpds.{frame_stream}
 use Rattle.bridge_core.specs.{Courses.{course_of, course_of_job}, Follow.{follow_at, followed_course}}
 use Rattle.bridge_core.proofs.Lies.{lies_of}
 use Rattle.laws_of_jobs.specs.Histories.{IsFollowing, followed_at}

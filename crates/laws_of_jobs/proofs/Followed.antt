@@ -10,7 +10,9 @@ use Rattle.hls_master.specs.declared.track.MasterTrack.{MasterTrack}
 use Rattle.hls_media.specs.{Laws.IsBounded, declared.media.Media.Media}
 use Rattle.hls_presentation.specs.{Presenting.track_of, Tracks.{Source, sources}}
 use Rattle.dash_writer.specs.{declared.live.LiveMpd.LiveMpd, declared.live.LivePeriod.LivePeriod}
-use Rattle.hls_follow.specs.{declared.fault.LiveFault.TheVariants.Limit, declared.state.Followed.Followed, Groups.groups_of}
+use Rattle.hls_follow.specs.declared.state.Followed.{Followed}
+use Rattle.hls_follow.specs.Groups.{groups_of}
+use Rattle.layer_faults.specs.declared.live.LiveFault.TheVariants.{Limit}
 use Rattle.hls_follow.specs.{Histories.{IsRound, Playlists}, Kept.{flags_of, formers_of, kept_by, periods_of}, Periods.last_end}
 use Rattle.hls_follow.specs.{Periods.periods_from, Rounds.{first_start, followed_by, followed_of, followed_with, from_1583, judged_tracks}}
 use Rattle.hls_follow.specs.{Rounds.{kept_in, mpd_of, mpd_or_fault, placed_of, start_of, whole_millis}, Rules.judged_at, Times.timed_all}

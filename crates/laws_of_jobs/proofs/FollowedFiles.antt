@@ -1,7 +1,8 @@
 -- The files of a followed presentation, frame by frame.
-use Rattle.std.proofs.Common.{◌≡◌, ◌<◌, ℕ, zero, suc, ◌+◌, ◌==◌, List, [], ◌∷◌, ◌++◌, length, take, Option, None, Some, option_map, Result}
-use Rattle.std.proofs.{Common.{Ok, Err, inl, inr, refl, sym, ap, ◌∙◌, subst, arith, append_assoc}, lemmas.Bool.{cases_Bool, eqb-true}}
-use Rattle.std.proofs.{lemmas.List.append-nil, lemmas.List.Sums.fold-append, lemmas.Option.slice_get_within}
+use Rattle.std.proofs.Common.{◌≡◌, ◌<◌, ℕ, zero, suc, ◌+◌, ◌==◌, List, [], ◌∷◌, ◌++◌, length, take, Option, None, Some, option_map}
+use Rattle.std.proofs.Common.{Result, Ok, Err, inl, inr, refl, sym, ap, ◌∙◌, subst, arith, append_assoc}
+use Rattle.std.proofs.{lemmas.Bool.{cases_Bool, eqb-true}, lemmas.List.append-nil, lemmas.List.Sums.fold-append}
+use Rattle.std.proofs.lemmas.Option.{slice_get_within}
 use Rattle.std.specs.{Prelude.{option_to_list, slice_get}, List.fold, Option.option_map_or, Result.{result_ok, result_err}}
 use Rattle.bridge_io.specs.{InOrder.put_all, Outside.Files}
 use Rattle.bridge_jobs.specs.{Laws.{in_folder, playlist_of as name_of}, declared.frame.Frame.Frame}
@@ -12,11 +13,11 @@ use Rattle.live_meaning.specs.{Updates.{Terms, Update}, States.{State, Track}, P
 use Rattle.live_meaning.specs.Laws.{HistoriesBegin, HistoriesGoOn, HistoriesRefuse}
 use Rattle.laws_of_reloads.specs.First.{HoldState}
 use Rattle.live_session.specs.Sessions.{text_of}
-use Rattle.presentation.specs.PresentedLaws.{PresentedAreFew}
+use Rattle.mpd_presentation.specs.PresentedLaws.{PresentedAreFew}
 use Rattle.laws_of_playlists.specs.SameFiles.{master_name}
 use Rattle.bridge_report.specs.{Following.{Followed, accepted_with, course_from, next_of, unless_refused}, Refusals.refusal_text}
 use Rattle.bridge_report.specs.declared.refusal.Refusal.{Refusal}
-use Rattle.bridge_steps.specs.LiveMpds.{followed_mpd, frame_state, live_files, track_files, update_of}
+use Rattle.bridge_live.specs.LiveMpds.{followed_mpd, frame_state, live_files, track_files, update_of}
 use Rattle.bridge_core.proofs.FileNames.{file_apart, file_there, first_written, no_master}
 use Rattle.laws_of_jobs.specs.Histories.{updates_of}
 use Rattle.laws_of_jobs.proofs.FrameStates.{HasFewTracks, IsLeft, accepting, first_opens, frame_left, history_with, left_by, next_is}

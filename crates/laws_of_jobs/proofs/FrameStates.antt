@@ -5,19 +5,21 @@ use Rattle.std.proofs.Common.{◌≡◌, ◌≤◌, ℕ, ℤ, suc, ◌+◌, List
 use Rattle.std.proofs.{Common.{refl, sym, ap, ◌∙◌, subst, arith}, lemmas.List.length-map, lemmas.List.FromFn.length-range_with_len}
 use Rattle.std.specs.{Prelude.option_to_list, List.fold, Result.{result_ok, result_err}}
 use Rattle.bridge_io.proofs.AndThen.{steps_of}
-use Rattle.bridge_io.specs.{Answer.and_then, Firsts.first_of}
+use Rattle.bridge_io.specs.{Answer.{and_then, told_as}, Firsts.first_of}
 use Rattle.presentation.specs.{declared.fault.PresentationFault.PresentationFault, Counting.tracks_of, Presented.Presented}
-use Rattle.presentation.specs.{PresentedLaws.PresentedAreFew, Told.{told_as, presented_of}}
+use Rattle.mpd_presentation.specs.{PresentedLaws.PresentedAreFew, Told.presented_of}
 use Rattle.presentation.proofs.Filling.{ok_under}
 use Rattle.bridge_jobs.specs.declared.frame.Frame.{Frame}
-use Rattle.live_meaning.specs.{Updates.{Refresh, Reset, Terms, Update, Values, now_of, unit_of}, States.{State, Track, state_of}}
-use Rattle.live_meaning.specs.{States.{state_with, track_of, tracks_after}, Histories.{Common, begun_common, begun_past, common_with}}
-use Rattle.live_meaning.specs.{Histories.force_by, Laws.{HistoriesBegin, HistoriesGoOn, HistoriesRefuse, Shows, with_accepted}}
+use Rattle.live_meaning.specs.Updates.{Refresh, Reset, Terms, Update, Values, now_of, unit_of}
+use Rattle.live_meaning.specs.States.{State, Track, state_of, state_with, track_of, tracks_after}
+use Rattle.live_meaning.specs.Histories.{Common, begun_common, begun_past, common_with, force_by}
+use Rattle.live_meaning.specs.Laws.{HistoriesBegin, HistoriesGoOn, HistoriesRefuse, Shows, with_accepted}
 use Rattle.live_judge.proofs.SoundGoesOn.{with_next}
 use Rattle.laws_of_reloads.proofs.FirstFiles.{begun_is}
 use Rattle.bridge_report.specs.{Following.unless_refused, Refusals.refusal_text, declared.refusal.Refusal.Refusal}
-use Rattle.bridge_steps.specs.{LiveMpds.{first_state, frame_state, next_state, told_of, update_of}, Manifests.values_of}
-use Rattle.bridge_steps.proofs.LiveStates.{first_is_one}
+use Rattle.bridge_steps.specs.Manifests.{values_of}
+use Rattle.bridge_live.specs.LiveMpds.{first_state, frame_state, next_state, told_of, update_of}
+use Rattle.bridge_live.proofs.LiveStates.{first_is_one}
 
 -- ---- what is refused has a refusal
 

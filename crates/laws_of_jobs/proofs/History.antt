@@ -9,13 +9,14 @@ use Rattle.hls_master.specs.declared.track.MasterTrack.{MasterTrack}
 use Rattle.hls_media.specs.{Laws.{IsBounded, ReadIsBounded}, Media.media_of, declared.media.Media.Media}
 use Rattle.hls_follow.specs.{Histories.{IsRound, SegmentsStay, accepted_after, if_accepted}, Rounds.{Following, followed_of, next_of}}
 use Rattle.hls_follow.specs.declared.state.Followed.{Followed}
-use Rattle.presentation.specs.Told.{told_as}
+use Rattle.bridge_io.specs.Answer.{told_as}
 use Rattle.presentation.proofs.Filling.{ok_under}
 use Rattle.bridge_jobs.specs.{Frames.start, declared.round.Round.Round}
 use Rattle.bridge_report.specs.{Following.unless_refused, Laws.{accepted_in, state_after}, Refusals.refusal_text}
 use Rattle.bridge_report.specs.declared.refusal.Refusal.{Refusal}
-use Rattle.bridge_reach.specs.{RoundLaws.left_by, Rounds.{followed_rounds, hls_of, media_in, medias_behind, medias_of, medias_with}}
-use Rattle.bridge_reach.specs.{Rounds.{no_rounds, round_state, round_stream, taken, urls_of}, declared.rounds.LiveHls.LiveHls}
+use Rattle.bridge_reach.specs.RoundLaws.{left_by}
+use Rattle.bridge_reach.specs.Rounds.{followed_rounds, hls_of, media_in, medias_behind, medias_of, medias_with, no_rounds, round_state}
+use Rattle.bridge_reach.specs.{Rounds.{round_stream, taken, urls_of}, declared.rounds.LiveHls.LiveHls}
 use Rattle.bridge_reach.specs.declared.rounds.LiveRounds.{LiveRounds}
 use Rattle.laws_of_jobs.specs.Rounds.{LeftIsOfTheHistory, ListedSegmentsStay, playlists_at}
 use Rattle.laws_of_jobs.proofs.Bodies.{all_have}

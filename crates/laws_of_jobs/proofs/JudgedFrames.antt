@@ -6,7 +6,7 @@ use Rattle.bridge_jobs.specs.declared.frame.Frame.{Frame}
 use Rattle.bridge_courses.specs.Courses.{Course, Step}
 use Rattle.live_meaning.specs.{Updates.{Terms, Update}, States.{State, state_of}, Laws.{HistoriesBegin, HistoriesGoOn, HistoriesRefuse}}
 use Rattle.bridge_report.specs.Following.{Followed, accepted_with, course_from, next_of, step_of}
-use Rattle.bridge_steps.specs.LiveMpds.{followed_mpd, update_of}
+use Rattle.bridge_live.specs.LiveMpds.{followed_mpd, update_of}
 use Rattle.bridge_core.specs.Follow.{terms_at}
 use Rattle.laws_of_jobs.specs.{Frames.FramesAreOfTheHistory, Histories.{frames_in, history_to, updates_of}}
 use Rattle.laws_of_jobs.proofs.{Courses.{course_is, line_at_end}, FrameStates.{IsLeft, accepting, frame_left, history_with}}

@@ -7,7 +7,8 @@ use Rattle.bridge_io.proofs.AndThen.{steps_of}
 use Rattle.timeline.specs.Expansions.{Timing}
 use Rattle.presentation.specs.{Counting.{sections_of, tracks_of}, Presented.{Presented, listed_at}}
 use Rattle.presentation.proofs.Filling.{all_gathered}
-use Rattle.fragment_times.specs.{declared.fault.SegmentSpot.SegmentSpot, declared.fault.FileFault.TheVariants.{Order, Range as OutOfRange}}
+use Rattle.fragment_times.specs.declared.fault.SegmentSpot.{SegmentSpot}
+use Rattle.layer_faults.specs.declared.times.FileFault.TheVariants.{Order, Range as OutOfRange}
 use Rattle.fragment_times.specs.{declared.fault.TimesFault.TheVariants.{Range, Segment}, declared.times.SegmentTimes.SegmentTimes}
 use Rattle.fragment_times.specs.Durations.{all_ticks, begun_at, durations_of, is_too_long, last_of, last_ticks, last_ticks_of, own_ticks}
 use Rattle.fragment_times.specs.{Durations.{section_ticks, ticks_at, ticks_behind, ticks_from, ticks_of, unless_long}, Refusals.next_spot}

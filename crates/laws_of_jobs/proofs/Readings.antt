@@ -1,18 +1,19 @@
 -- The updates of a stream are read of its bytes.
 use Rattle.bridge_jobs.specs.declared.frame.Frame.TheVariants as frame
-use Rattle.std.proofs.Common.{◌≡◌, ◌≤◌, ℕ, zero, suc, Bool, true, false, if◌then◌else◌, List, [], ◌∷◌, ◌++◌, length, take, Some, Result, Ok}
-use Rattle.std.proofs.{Common.{Err, refl, ap, ◌∙◌, arith, length-append}, lemmas.Grind.flat_map-append, lemmas.List.Elements.All-append}
-use Rattle.std.proofs.{lemmas.List.Elements.{All-cons, All-nil}, lemmas.Option.same_Some, lemmas.Str.IsUtf8-from_is_utf8}
+use Rattle.std.proofs.Common.{◌≡◌, ◌≤◌, ℕ, zero, suc, Bool, true, false, if◌then◌else◌, List, [], ◌∷◌, ◌++◌, length, take, Some, Result}
+use Rattle.std.proofs.{Common.{Ok, Err, refl, ap, ◌∙◌, arith, length-append}, lemmas.Grind.flat_map-append}
+use Rattle.std.proofs.{lemmas.List.Elements.{All-append, All-cons, All-nil}, lemmas.Option.same_Some, lemmas.Str.IsUtf8-from_is_utf8}
 use Rattle.std.specs.{Prelude.{All, option_to_list, slice_get}, Result.result_ok, Str.is_utf8}
 use Rattle.bridge_io.specs.Answer.{and_then}
 use Rattle.bridge_jobs.specs.declared.frame.Frame.{Frame}
 use Rattle.laws_of_mpds.proofs.Bytes.{all_bytes, utf8_bytes}
-use Rattle.mpd_text.specs.{Meaning.reading_of, Trees.Element, declared.fault.TextFault.TextFault}
+use Rattle.mpd_tree.specs.{Meaning.reading_of, Trees.Element, declared.fault.TextFault.TextFault}
 use Rattle.laws_of_playlists.specs.Origins.{IsOfBytes}
 use Rattle.live_meaning.specs.Updates.{Refresh, Reset, Tick, Update, Values, mpd_of}
 use Rattle.laws_of_reloads.specs.Laws.{AreRead, IsRead, IsReadIfAny}
 use Rattle.bridge_report.specs.declared.refusal.Refusal.{Refusal}
-use Rattle.bridge_steps.specs.{LiveMpds.update_of, Manifests.values_of}
+use Rattle.bridge_steps.specs.Manifests.{values_of}
+use Rattle.bridge_live.specs.LiveMpds.{update_of}
 use Rattle.bridge_steps.proofs.Static.{spelled_of}
 use Rattle.laws_of_jobs.specs.Histories.{updates_of}
 

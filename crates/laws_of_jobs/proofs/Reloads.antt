@@ -4,24 +4,23 @@ use Rattle.std.proofs.{Common.{inl, inr, refl, sym, ap, ◌∙◌, subst, arith,
 use Rattle.std.proofs.lemmas.Option.{none-some, same_Some}
 use Rattle.std.specs.{Prelude.slice_get, Result.result_err}
 use Rattle.bridge_io.specs.{InOrder.put_all, Outside.Files}
-use Rattle.bridge_jobs.specs.declared.frame.Frame.{Frame}
-use Rattle.bridge_jobs.specs.declared.jobs.FollowJob.{FollowJob}
+use Rattle.bridge_jobs.specs.{declared.frame.Frame.Frame, declared.jobs.FollowJob.FollowJob}
 use Rattle.bridge_courses.specs.Courses.{files_to}
-use Rattle.presentation.specs.PresentedLaws.{PresentedAreFew}
+use Rattle.mpd_presentation.specs.PresentedLaws.{PresentedAreFew}
 use Rattle.laws_of_playlists.specs.Origins.{OwnTextsAreAddresses}
-use Rattle.live_meaning.specs.{Updates.{Terms, Update}, States.{State, Track, state_of}, Playlists.{FollowedPlaylist, live_text}}
-use Rattle.live_meaning.specs.{Playlists.playlist_with, Laws.{AcceptedAreAccepted, HistoriesBegin, HistoriesGoOn, HistoriesRefuse}}
-use Rattle.live_meaning.specs.Laws.{accepted_of, with_accepted}
+use Rattle.live_meaning.specs.{Updates.{Terms, Update}, States.{State, Track, state_of}}
+use Rattle.live_meaning.specs.Playlists.{FollowedPlaylist, live_text, playlist_with}
+use Rattle.live_meaning.specs.Laws.{AcceptedAreAccepted, HistoriesBegin, HistoriesGoOn, HistoriesRefuse, accepted_of, with_accepted}
 use Rattle.laws_of_reloads.specs.{First.HoldState, Laws.{AreRead, FollowedTextsReload}}
 use Rattle.bridge_report.specs.{Refusals.refusal_text, declared.refusal.Refusal.Refusal}
 use Rattle.bridge_playlists.specs.declared.place.StorePlace.{StorePlace}
-use Rattle.bridge_steps.specs.LiveMpds.{next_state}
+use Rattle.bridge_live.specs.LiveMpds.{next_state}
 use Rattle.bridge_core.specs.Follow.{terms_at}
-use Rattle.laws_of_jobs.specs.{Histories.{frames_in, history_to, state_to, updates_to}, Files.FollowedFilesAreOfTheHistory}
-use Rattle.laws_of_jobs.specs.Files.{FollowedFilesReload, HoldsHistory, prefix_of}
-use Rattle.laws_of_jobs.proofs.{Courses.{course_is, line_at_end}, FewDigits.few_digits, FewFrames.few_frames, FollowedFiles.HoldsIfAny}
-use Rattle.laws_of_jobs.proofs.{FollowedFiles.{IsBehind, frames_behind}, FrameStates.{IsLeft, accepting, next_is, state_goes_on}}
-use Rattle.laws_of_jobs.proofs.Readings.{are_read, no_more, one_more}
+use Rattle.laws_of_jobs.specs.Histories.{frames_in, history_to, state_to, updates_to}
+use Rattle.laws_of_jobs.specs.Files.{FollowedFilesAreOfTheHistory, FollowedFilesReload, HoldsHistory, prefix_of}
+use Rattle.laws_of_jobs.proofs.{Courses.{course_is, line_at_end}, FewDigits.few_digits, FewFrames.few_frames}
+use Rattle.laws_of_jobs.proofs.FollowedFiles.{HoldsIfAny, IsBehind, frames_behind}
+use Rattle.laws_of_jobs.proofs.{FrameStates.{IsLeft, accepting, next_is, state_goes_on}, Readings.{are_read, no_more, one_more}}
 
 -- ---- the files of the history
 

@@ -9,7 +9,8 @@ use Rattle.box_reader.specs.Boxes.{Found, Left, behind, boxes_of, else_fault, fo
 use Rattle.box_reader.specs.{Boxes.walk_within, declared.head.BoxFault.BoxFault, declared.head.BoxHead.BoxHead}
 use Rattle.url_parts.specs.{declared.address.Part.Part, declared.range.Range.Range}
 use Rattle.presentation.proofs.Filling.{ok_under}
-use Rattle.fragment_times.specs.{declared.fault.FileFault.FileFault, declared.fault.FileFault.TheVariants.Scale}
+use Rattle.layer_faults.specs.declared.times.FileFault.{FileFault}
+use Rattle.layer_faults.specs.declared.times.FileFault.TheVariants.{Scale}
 use Rattle.fragment_times.specs.{declared.fault.TimesFault.TheVariants.File, Parts.{byte_limit, bytes_of, file_of, first_byte, scale_at}}
 use Rattle.fragment_times.specs.{Parts.told_of, Told.{alone, child_of, fault_among, first_box, inside, media_scale_of, needed, scale_by}}
 use Rattle.fragment_times.specs.Told.{scale_in, short, track_scale, u32_in, unless_among, unless_none, version_of}

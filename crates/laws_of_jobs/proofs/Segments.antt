@@ -6,7 +6,9 @@ use Rattle.std.proofs.lemmas.List.Elements.{All-map}
 use Rattle.std.specs.List.{list_any}
 use Rattle.bridge_io.proofs.AndThen.{steps_of}
 use Rattle.hls_presentation.specs.Tracks.{Source}
-use Rattle.hls_follow.specs.{declared.fault.LiveFault.TheVariants.Limit, declared.state.FollowedTrack.FollowedTrack, Groups.group_at}
+use Rattle.hls_follow.specs.declared.state.FollowedTrack.{FollowedTrack}
+use Rattle.hls_follow.specs.Groups.{group_at}
+use Rattle.layer_faults.specs.declared.live.LiveFault.TheVariants.{Limit}
 use Rattle.hls_follow.specs.{Groups.{groups_of, put_before, row_at}, Periods.live_segment, Times.{is_late, last_of, timed_all, timed_of}}
 use Rattle.hls_follow.specs.Times.{unless_late}
 use Rattle.hls_follow.proofs.{Histories.at_index, Listing.segments_timed, Sections.segments_in, Staying.same_by}

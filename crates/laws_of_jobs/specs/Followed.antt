@@ -1,7 +1,7 @@
 -- What is read of the MPD that rounds of playlists leave.
 use Rattle.std.specs.{Prelude.{◌≡◌, ℕ, List, map, All, Some, None, option_map, Ok}, Result.result_ok}
 use Rattle.iso_time.specs.Instant.{IsReadable}
-use Rattle.mpd_text.specs.Meaning.{reading_of}
+use Rattle.mpd_tree.specs.Meaning.{reading_of}
 use Rattle.mpd_rules.specs.Rules.{dash_values}
 use Rattle.hls_master.specs.{declared.track.MasterTrack.MasterTrack, Masters.master_of, SeenTracks.track_seen}
 use Rattle.dash_writer.specs.Live.{live_text}

@@ -8,7 +8,7 @@ use Rattle.bridge_courses.specs.Courses.{Course}
 use Rattle.live_meaning.specs.{Updates.{Terms, Update}, States.{State, state_of}, Laws.{NeverDrifts, accepted_of}}
 use Rattle.bridge_report.specs.Following.{Followed}
 use Rattle.bridge_playlists.specs.{Places.store_place_of, declared.place.StorePlace.StorePlace}
-use Rattle.bridge_steps.specs.LiveMpds.{followed_mpd, update_of}
+use Rattle.bridge_live.specs.LiveMpds.{followed_mpd, update_of}
 use Rattle.bridge_core.specs.{Courses.course_of, Follow.terms_at}
 
 -- ---- what is followed

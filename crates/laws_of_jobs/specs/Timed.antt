@@ -1,12 +1,13 @@
 -- What is read of an MPD that is written of playlists with the times of their media files.
 use Rattle.std.specs.{Prelude.{◌≡◌, ◌<◌, ℕ, ℤ, List, map, All, Option, Some, option_map, Ok}, Result.result_ok}
 use Rattle.bridge_io.specs.Outside.{Files}
-use Rattle.mpd_text.specs.Meaning.{reading_of}
+use Rattle.mpd_tree.specs.Meaning.{reading_of}
 use Rattle.mpd_rules.specs.Rules.{dash_values}
 use Rattle.hls_master.specs.{declared.track.MasterTrack.MasterTrack, Masters.master_of, SeenTracks.track_seen}
 use Rattle.hls_media.specs.{Laws.IsBounded, declared.media.Media.Media}
 use Rattle.hls_presentation.specs.Presenting.{hls_presented_of}
-use Rattle.presentation.specs.{Meanings.{dash_meaning, meaning_of}, Presented.Presented}
+use Rattle.presentation.specs.{Meanings.meaning_of, Presented.Presented}
+use Rattle.mpd_presentation.specs.Meanings.{dash_meaning}
 use Rattle.fragment_times.specs.{Durations.durations_of, Times.times_of, declared.times.SegmentTimes.SegmentTimes}
 use Rattle.dash_writer.specs.Timed.{timed_text}
 use Rattle.bridge_reach.specs.DashTimes.{runs_of}

@@ -9,7 +9,7 @@ use bridge_courses::{a_verdict_keeps_the_steps, an_execution_leaves_its_steps};
 use laws_of_playlists::read_trees_are_of_bytes;
 use laws_of_reloads::followed_texts_reload;
 use live_meaning::{accepted_never_drift, histories_go_on};
-use presentation::presentations_show_their_mpd;
+use mpd_presentation::presentations_show_their_mpd;
 
 /// Each frame of a followed MPD is accepted or refused, written, told and counted by what the whole history of the frames
 /// accepted before it left.

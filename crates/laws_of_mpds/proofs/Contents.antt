@@ -5,15 +5,16 @@ use Rattle.std.proofs.{Common.{unwrap_or, refl, sym, ◌∙◌, ap, ap₂, arith
 use Rattle.std.proofs.lemmas.Option.{slice_get-get_or}
 use Rattle.std.specs.{Prelude.slice_get, List.AllByRecursion}
 use Rattle.url_parts.specs.declared.address.Part.{Part}
-use Rattle.timeline.specs.{declared.entry.End.End, Expansions.{Closed, Extent, SegmentTimeline, numbered}, Listed.{instant_of, is_listed}}
-use Rattle.timeline.specs.{Listed.part_of_timing, SegmentTimelines.timeline_from}
+use Rattle.timeline.specs.{declared.entry.End.End, Expansions.{Closed, Extent, SegmentTimeline, numbered}}
+use Rattle.timeline.specs.{Listed.{instant_of, is_listed, part_of_timing}, SegmentTimelines.timeline_from}
 use Rattle.mpd_levels.specs.Segments.{if_any}
 use Rattle.mpd_rules.specs.declared.rows.Description.{Description}
-use Rattle.presentation.specs.{declared.parts.Content.Content, Presented.{listed_in, whole_window}, Meanings.{content_meant, entry_of}}
-use Rattle.presentation.specs.{Meanings.{entry_with, listed_part, own_part, part_meant, segment_of}, Scales.scale_of}
+use Rattle.presentation.specs.{declared.parts.Content.Content, Presented.{listed_in, whole_window}}
+use Rattle.presentation.specs.Meanings.{entry_of, entry_with, listed_part, own_part, part_meant, segment_of}
+use Rattle.mpd_presentation.specs.{Meanings.content_meant, Scales.scale_of}
 use Rattle.dash_writer.specs.Segments.{duration_of, part_or_none}
-use Rattle.laws_of_mpds.specs.{Rows.in_row, Told.{list_told, told_of, url_of}, Contents.{IsOwnPart, IsPlain, IsPlainFrom, ContentsAreMeant}}
-use Rattle.laws_of_mpds.specs.Contents.{TimedContentsAreMeant}
+use Rattle.laws_of_mpds.specs.{Rows.in_row, Told.{list_told, told_of, url_of}}
+use Rattle.laws_of_mpds.specs.Contents.{IsOwnPart, IsPlain, IsPlainFrom, ContentsAreMeant, TimedContentsAreMeant}
 use Rattle.laws_of_mpds.proofs.{Addressed.own_address, Times.{all_listed, durations_are, extents_closed, timeline_expands}}
 
 -- ---- parts

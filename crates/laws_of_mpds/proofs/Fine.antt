@@ -6,17 +6,17 @@ use Rattle.std.specs.{Prelude.{decimal, All}, List.AllByRecursion}
 use Rattle.bridge_io.specs.declared.media.Size.{Size}
 use Rattle.iso_time.specs.Duration.{duration_text}
 use Rattle.url_parts.specs.declared.address.Part.{Part}
-use Rattle.mpd_text.specs.Characters.{starts_name, goes_on_name}
+use Rattle.mpd_tree.specs.{Characters.{starts_name, goes_on_name}, Placed.{IsLegal, IsLegalTag}}
 use Rattle.presentation.specs.declared.track.Track.{Track}
-use Rattle.mpd_markup.specs.Placed.{IsLegal, IsLegalTag}
 use Rattle.dash_writer.specs.{Elements.{Attribute, Element as Written, node, tag_of}, Lists.{contents_with, head_attributes, list_with}}
-use Rattle.dash_writer.specs.{Manifest.finished_root, Outline.{Outline, mime_type, period_element, period_elements}}
-use Rattle.dash_writer.specs.Outline.{representation_attributes, root_element, set_attributes, set_elements, stand_together, track_element}
-use Rattle.dash_writer.specs.{Outline.track_elements, Runs.longest_runs, Segments.{initialization, s_element, s_elements, same_duration}}
-use Rattle.dash_writer.specs.{Segments.segment_url, Values.{id_text, range_text}}
+use Rattle.dash_writer.specs.Manifest.{finished_root}
+use Rattle.dash_writer.specs.Outline.{Outline, mime_type, period_element, period_elements, representation_attributes, root_element}
+use Rattle.dash_writer.specs.{Outline.{set_attributes, set_elements, stand_together, track_element, track_elements}, Runs.longest_runs}
+use Rattle.dash_writer.specs.{Segments.{initialization, s_element, s_elements, same_duration, segment_url}, Values.{id_text, range_text}}
 use Rattle.laws_of_mpds.specs.{Contents.IsOwnPart, Texts.{IsCarried, IsTellable}}
-use Rattle.laws_of_mpds.proofs.{Legal.{IsFine, all_fine, fine_leaf, fine_node, legal_tag, maybe_plain, rate_carried}, Plain.address_plain}
-use Rattle.laws_of_mpds.proofs.{Plain.{carried, decimal_plain, duration_plain, id_plain, mime_plain, range_plain}, Sets.{all_join, joined}}
+use Rattle.laws_of_mpds.proofs.Legal.{IsFine, all_fine, fine_leaf, fine_node, legal_tag, maybe_plain, rate_carried}
+use Rattle.laws_of_mpds.proofs.Plain.{address_plain, carried, decimal_plain, duration_plain, id_plain, mime_plain, range_plain}
+use Rattle.laws_of_mpds.proofs.Sets.{all_join, joined}
 
 pub number : (n : ℕ) → IsCarried (decimal n)
 number n = carried (decimal n) (decimal_plain n)

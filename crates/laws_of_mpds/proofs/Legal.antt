@@ -1,10 +1,9 @@
 -- The tree of a written MPD can be written.
-use Rattle.std.proofs.Common.{◌≡◌, ℕ, suc, ◌≤◌, ◌==◌, ◌&&◌, ◌||◌, not, Bool, true, false, List, [], ◌∷◌, ◌++◌, map, bytes_eq, Option, Some}
-use Rattle.std.proofs.{Common.{None, IfSome, option_map, option_and_then, if◌then◌else◌, refl, ap, arith}, lemmas.Bool.and_parts}
+use Rattle.std.proofs.Common.{◌≡◌, ℕ, suc, ◌≤◌, ◌==◌, ◌&&◌, ◌||◌, not, Bool, true, false, List, [], ◌∷◌, ◌++◌, map, bytes_eq, Option}
+use Rattle.std.proofs.{Common.{Some, None, IfSome, option_map, option_and_then, if◌then◌else◌, refl, ap, arith}, lemmas.Bool.and_parts}
 use Rattle.std.specs.List.{AllByRecursion, list_all}
 use Rattle.bridge_io.specs.{Texts.is_among, declared.media.Ratio.Ratio}
-use Rattle.mpd_text.specs.Characters.{is_name}
-use Rattle.mpd_markup.specs.Placed.{AllDiffer, AllLegal, AreLegal, IsLegalName, IsLegalTag, levels}
+use Rattle.mpd_tree.specs.{Characters.is_name, Placed.{AllDiffer, AllLegal, AreLegal, IsLegalName, IsLegalTag, levels}}
 use Rattle.dash_writer.specs.Elements.{Attribute, Element as Written, attributes_of, in_order, leaf, node, tag_of, with_attribute}
 use Rattle.dash_writer.specs.Values.{known_rate, rate_text}
 use Rattle.laws_of_mpds.specs.Texts.{IsCarried}

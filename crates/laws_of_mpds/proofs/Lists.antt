@@ -1,13 +1,12 @@
 -- The elements of a written SegmentList are read as they were written.
 use Rattle.mpd_levels.specs.Segments as level
-use Rattle.std.proofs.Common.{◌≡◌, ℕ, zero, suc, ◌≤◌, ◌==◌, pos, Bool, true, false, List, [], ◌∷◌, ◌++◌, length, map, filter, codes, Option}
-use Rattle.std.proofs.Common.{Some, None, if◌then◌else◌, IfSome, option_map, option_and_then, unwrap_or, refl, sym, ◌∙◌, ap, ap₂, subst}
-use Rattle.std.proofs.{Common.arith, lemmas.List.length-map, lemmas.Simd.map-map}
+use Rattle.std.proofs.Common.{◌≡◌, ℕ, zero, suc, ◌≤◌, ◌==◌, pos, Bool, true, false, List, [], ◌∷◌, ◌++◌, length, map, filter, codes}
+use Rattle.std.proofs.Common.{Option, Some, None, if◌then◌else◌, IfSome, option_map, option_and_then, unwrap_or, refl, sym, ◌∙◌, ap, ap₂}
+use Rattle.std.proofs.{Common.{subst, arith}, lemmas.List.length-map, lemmas.Simd.map-map}
 use Rattle.std.specs.{Prelude.decimal, List.AllByRecursion}
 use Rattle.bridge_io.specs.declared.place.Place.{Place}
 use Rattle.url_parts.specs.{declared.address.Part.Part, declared.range.Range.Range}
-use Rattle.mpd_text.specs.{Trees.Element, Views.side_by_side}
-use Rattle.mpd_markup.specs.{Placed.{past, placed}, Markup.opening}
+use Rattle.mpd_tree.specs.{Trees.Element, Views.side_by_side, Placed.{past, placed}, Markup.opening}
 use Rattle.mpd_profile.specs.Heads.{is_named, or_else}
 use Rattle.mpd_values.specs.Numbers.{signed_of}
 use Rattle.mpd_levels.specs.{Segments.segments_of, declared.initialization.Initialization.Initialization}

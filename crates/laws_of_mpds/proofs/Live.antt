@@ -1,18 +1,18 @@
 -- The text of a live MPD is read as it was written.
-use Rattle.std.proofs.Common.{◌≡◌, ℕ, zero, suc, ◌+◌, ◌^◌, ◌<◌, Bool, true, false, not, List, [], ◌∷◌, ◌++◌, length, map, slice_get, codes}
-use Rattle.std.proofs.Common.{decimal, All, Some, None, option_map, option_and_then, if◌then◌else◌, refl, sym, ◌∙◌, ap, subst, arith}
-use Rattle.std.proofs.{lemmas.List.length-map, lemmas.Option.{get_or_from_slice_get, slice_get_within}}
+use Rattle.std.proofs.Common.{◌≡◌, ℕ, zero, suc, ◌+◌, ◌^◌, ◌<◌, Bool, true, false, not, List, [], ◌∷◌, ◌++◌, length, map, slice_get}
+use Rattle.std.proofs.Common.{codes, decimal, All, Some, None, option_map, option_and_then, if◌then◌else◌, refl, sym, ◌∙◌, ap, subst}
+use Rattle.std.proofs.{Common.arith, lemmas.List.length-map, lemmas.Option.{get_or_from_slice_get, slice_get_within}}
 use Rattle.std.specs.{Prelude.ℤ, List.AllByRecursion, Result.result_ok}
-use Rattle.iso_time.specs.{Civil.instant_text, Duration.duration_text, Instant.IsReadable as IsReadableInstant, Laws.DurationsAreReadAgain}
-use Rattle.iso_time.specs.Laws.{InstantsAreReadAgain, floor_millis}
-use Rattle.mpd_text.specs.Characters.{starts_name, goes_on_name}
-use Rattle.mpd_markup.specs.Placed.{past, IsLegalTag, PrintedAreRead, root_place}
+use Rattle.iso_time.specs.{Civil.instant_text, Duration.duration_text, Instant.IsReadable as IsReadableInstant}
+use Rattle.iso_time.specs.Laws.{DurationsAreReadAgain, InstantsAreReadAgain, floor_millis}
+use Rattle.mpd_tree.specs.{Characters.{starts_name, goes_on_name}, Placed.{past, IsLegalTag, PrintedAreRead, root_place}}
 use Rattle.mpd_profile.specs.Heads.{is_word}
 use Rattle.mpd_rules.specs.{Readings.instant_in, Rules.dash_values}
-use Rattle.dash_writer.specs.{Elements.{Attribute, tag_of}, Live.{first_time, growing_root, last_live_end, live_list, live_lists}}
-use Rattle.dash_writer.specs.{Live.{live_outline, live_period, live_root, live_text, part_of}, Manifest.finished_root, Outline.heads_from}
-use Rattle.dash_writer.specs.{Outline.root_element, Values.seconds_text, declared.live.LiveMpd.LiveMpd, declared.live.LivePeriod.LivePeriod}
-use Rattle.dash_writer.specs.{declared.live.LiveRun.LiveRun, declared.live.LiveSegment.LiveSegment}
+use Rattle.dash_writer.specs.Elements.{Attribute, tag_of}
+use Rattle.dash_writer.specs.Live.{first_time, growing_root, last_live_end, live_list, live_lists, live_outline, live_period, live_root}
+use Rattle.dash_writer.specs.{Live.{live_text, part_of}, Manifest.finished_root, Outline.{heads_from, root_element}, Values.seconds_text}
+use Rattle.dash_writer.specs.{declared.live.LiveMpd.LiveMpd, declared.live.LivePeriod.LivePeriod, declared.live.LiveRun.LiveRun}
+use Rattle.dash_writer.specs.declared.live.LiveSegment.{LiveSegment}
 use Rattle.laws_of_mpds.specs.Live.{IsReadableMpd, IsReadablePeriod, IsReadableRun, LiveTextsAreRead, durations_in, live_told, told_in}
 use Rattle.laws_of_mpds.specs.{Live.until_ended, Shown.shown_of, Texts.IsTellable, Told.IsShort}
 use Rattle.laws_of_mpds.proofs.Fine.{AreFine, ArePrintable, by_recursion, fine_list, finished_legal, number, root_legal}

@@ -1,7 +1,7 @@
 -- Tracks that stand in order stay where they are.
 use Rattle.std.proofs.Common.{◌≡◌, true, List, [], ◌∷◌, ◌++◌, map, filter, refl, ap}
 use Rattle.bridge_io.specs.{declared.media.Kind.Kind, declared.media.Kind.TheVariants.{Video, Audio, Text}}
-use Rattle.presentation.specs.Rows.{by_kind, is_of}
+use Rattle.presentation.specs.Order.{by_kind, is_of}
 use Rattle.laws_of_mpds.specs.Meant.{are_audio_then_text, are_in_order, are_text}
 
 abbrev those : {X : Type 0} → (X → Kind) → Kind → List X → List X

@@ -1,27 +1,28 @@
 -- The Periods of a written MPD mean the sections that were written.
 use Rattle.mpd_profile.specs.declared.listed.Listed.TheVariants as listed
-use Rattle.presentation.specs.Rows as row
+use Rattle.mpd_presentation.specs.Rows as row
 use Rattle.std.proofs.Common.{◌≡◌, ℕ, ◌+◌, ◌<◌, ◌≤◌, ℤ, true, false, List, [], ◌∷◌, ◌++◌, length, map, filter, codes, Option, Some, None}
 use Rattle.std.proofs.{Common.{◌&&◌, Bool, unwrap_or, refl, sym, ◌∙◌, ap, ap₂, arith}, lemmas.Bool.cond-true}
 use Rattle.std.specs.{List.{list_all, range_with_len}, Option.option_map_or}
 use Rattle.bridge_io.specs.declared.place.Place.{Place}
 use Rattle.timeline.specs.{declared.entry.End.End, declared.entry.End.TheVariants.Unbounded}
-use Rattle.mpd_text.specs.{Trees.Element, Views.side_by_side}
-use Rattle.mpd_markup.specs.{Placed.{past, placed, root_place}, Markup.opening}
+use Rattle.mpd_tree.specs.{Trees.Element, Views.side_by_side, Placed.{past, placed, root_place}, Markup.opening}
 use Rattle.mpd_profile.specs.Heads.{is_word}
 use Rattle.mpd_levels.specs.Segments.{Segments, segments_of}
-use Rattle.mpd_rules.specs.{declared.facts.Facts.Facts, declared.periods.Bounds.Bounds, declared.rows.Description.Description, Kept.is_kept}
-use Rattle.mpd_rules.specs.{Kept.paths_of, Periods.{bounds_from, timed_of, total_of, first_start}, Readings.base_reference}
+use Rattle.mpd_rules.specs.{declared.facts.Facts.Facts, declared.periods.Bounds.Bounds, declared.rows.Description.Description}
+use Rattle.mpd_rules.specs.{Kept.{is_kept, paths_of}, Periods.{bounds_from, timed_of, total_of, first_start}, Readings.base_reference}
 use Rattle.mpd_rules.specs.{Rules.dash_values, Typed.{facts_of, period_of, track_of}}
 use Rattle.presentation.specs.{declared.track.Track.Track, declared.track.Section.Section, Presented.{Presented, whole_window, window_at}}
-use Rattle.presentation.specs.{Rows.{Row, first_rows}, Told.{end_of, following_of, untold}, Meanings.{content_meant, content_of_row}}
-use Rattle.presentation.specs.Meanings.{entry_at, entry_of, head_of, head_of_row, head_with, meaning_of, meaning_with, mpd_meaning, row_at}
-use Rattle.presentation.specs.Meanings.{are_counted, is_counted, meaning_if_counted, period_counted, row_counted, row_meant}
-use Rattle.dash_writer.specs.{Elements.{Element as Written, in_order, tag_of}, Manifest.{all_period_attributes, period_attributes}}
-use Rattle.dash_writer.specs.{Manifest.root_attributes, Outline.{Outline, period_element, period_elements, root_element}}
+use Rattle.presentation.specs.Meanings.{entry_at, entry_of, head_of, head_with, meaning_of, meaning_with, row_at}
+use Rattle.mpd_presentation.specs.{Rows.{Row, first_rows}, Told.{end_of, following_of, untold}}
+use Rattle.mpd_presentation.specs.Meanings.{content_meant, content_of_row, head_of_row, mpd_meaning, are_counted, is_counted}
+use Rattle.mpd_presentation.specs.Meanings.{meaning_if_counted, period_counted, row_counted, row_meant}
+use Rattle.dash_writer.specs.Elements.{Element as Written, in_order, tag_of}
+use Rattle.dash_writer.specs.Manifest.{all_period_attributes, period_attributes, root_attributes}
+use Rattle.dash_writer.specs.Outline.{Outline, period_element, period_elements, root_element}
 use Rattle.laws_of_mpds.specs.{Told.read_at, Meant.{are_in_order, Seen, seen_of, seen_from}, Shown.{ShownTrack, shown_row, shown_tracks}}
-use Rattle.laws_of_mpds.proofs.{Orders.in_order_already, Representations.{Has, HasAll}, Shown.{heads_named, period_tracks}, Views.behind}
-use Rattle.laws_of_mpds.proofs.Views.{no_base, value_read}
+use Rattle.laws_of_mpds.proofs.{Orders.in_order_already, Representations.{Has, HasAll}, Shown.{heads_named, period_tracks}}
+use Rattle.laws_of_mpds.proofs.Views.{behind, no_base, value_read}
 
 -- ---- what is told by what counts of Representations
 

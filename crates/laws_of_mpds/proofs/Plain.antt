@@ -1,19 +1,19 @@
 -- Texts of printable ASCII, which values can carry.
-use Rattle.std.proofs.Common.{◌≡◌, ℕ, zero, suc, ◌+◌, ◌-◌, ◌/◌, ◌%◌, ◌^◌, ◌<◌, ◌==◌, ◌&&◌, nat_le, nat_lt, Bool, true, false, List, [], ◌∷◌}
-use Rattle.std.proofs.{Common.{◌++◌, None, Ok, Err, option_map, if◌then◌else◌, IsUtf8, refl, ◌∙◌, ap, subst, arith}, lemmas.Bool.and_parts}
-use Rattle.std.proofs.{lemmas.List.Folds.list_all-append, lemmas.Nat.mod_below, lemmas.Str.{IsUtf8-append, IsUtf8-encode, IsUtf8-nil}}
-use Rattle.std.proofs.lemmas.Str.{encode_ascii}
+use Rattle.std.proofs.Common.{◌≡◌, ℕ, zero, suc, ◌+◌, ◌-◌, ◌/◌, ◌%◌, ◌^◌, ◌<◌, ◌==◌, ◌&&◌, nat_le, nat_lt, Bool, true, false, List, []}
+use Rattle.std.proofs.Common.{◌∷◌, ◌++◌, None, Ok, Err, option_map, if◌then◌else◌, IsUtf8, refl, ◌∙◌, ap, subst, arith}
+use Rattle.std.proofs.{lemmas.Bool.and_parts, lemmas.List.Folds.list_all-append, lemmas.Nat.mod_below}
+use Rattle.std.proofs.lemmas.Str.{IsUtf8-append, IsUtf8-encode, IsUtf8-nil, encode_ascii}
 use Rattle.std.specs.{Prelude.decimal, Fmt.{digits, digits_onto}, List.list_all}
-use lib.Utf8.{low_scalar}
 use Rattle.bridge_io.specs.{declared.media.Kind.Kind, declared.media.Kind.TheVariants.{Video, Audio, Text}, declared.media.Ratio.Ratio}
 use Rattle.iso_time.specs.{Digits.padded_digits, Duration.{is_empty, duration_text, nanos_text, without_zeros}}
 use Rattle.url.specs.Parser.{Parsed, parse_url}
 use Rattle.url_parts.specs.{Addresses.{IsAddress, absolute, accepted, is_address_byte}, declared.range.Range.Range}
 use Rattle.url_parts.proofs.Bases.{bytes_from_accepted}
-use Rattle.mpd_text.specs.Characters.{begins_with_noncharacter, begins_with_bad_character, first_bad_character}
+use Rattle.mpd_tree.specs.Characters.{begins_with_noncharacter, begins_with_bad_character, first_bad_character}
 use Rattle.dash_writer.specs.{Values.{range_text, rate_text, id_text, seconds_text}, Outline.mime_type}
 use Rattle.laws_of_mpds.specs.Texts.{IsCarried}
 use Rattle.laws_of_mpds.proofs.Addressed.{accepted_text}
+use lib.Utf8.{low_scalar}
 
 abbrev pub is_plain : ℕ → Bool
 is_plain b = nat_le 32 b && nat_lt b 127

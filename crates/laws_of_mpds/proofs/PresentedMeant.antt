@@ -18,7 +18,8 @@ use Rattle.meaning.specs.{Meanings.Entry, Same.{IsSameTime, Pairwise, Same, Same
 use Rattle.presentation.specs.{Counting.sections_of, declared.parts.Content.Content, Meanings.{entry_at, entry_in, entry_of, head_of}}
 use Rattle.presentation.specs.Meanings.{is_kept, language_of, meaning_of, meaning_over, rows_of as rows_meant, row_at as row_meant}
 use Rattle.presentation.specs.{Meanings.tracks_from, Presented.{Presented, of_parts, whole_window}}
-use Rattle.hls_presentation.specs.{declared.fault.HlsFault.HlsFault, declared.fault.HlsFault.TheVariants.{Limit, NoTracks, SectionsDiffer}}
+use Rattle.layer_faults.specs.declared.hls.HlsFault.{HlsFault}
+use Rattle.layer_faults.specs.declared.hls.HlsFault.TheVariants.{Limit, NoTracks, SectionsDiffer}
 use Rattle.hls_presentation.specs.{Origins.IsSilentTrack, Presenting.{are_micros, content_of, contents_of, flattened, hls_presented_of}}
 use Rattle.hls_presentation.specs.Presenting.{is_micros, nanos_by_tick, parts_with, presented_from, presented_of_kept, track_of}
 use Rattle.hls_presentation.specs.Sections.{all_alike, are_alike, group_at, groups_in, is_over_limit, rows_of, section_count, whole_faults}

@@ -1,19 +1,18 @@
 -- Representations of one set are read as they were written.
 use Rattle.mpd_profile.specs.declared.listed.Listed.TheVariants as listed
-use Rattle.std.proofs.Common.{◌≡◌, ℕ, ◌+◌, ◌<◌, ◌≤◌, false, List, [], ◌∷◌, ◌++◌, length, map, filter, codes, Option, Some, None, unwrap_or}
-use Rattle.std.proofs.Common.{refl, sym, ◌∙◌, ap, ap₂, subst, arith}
+use Rattle.std.proofs.Common.{◌≡◌, ℕ, ◌+◌, ◌<◌, ◌≤◌, false, List, [], ◌∷◌, ◌++◌, length, map, filter, codes, Option, Some, None}
+use Rattle.std.proofs.Common.{unwrap_or, refl, sym, ◌∙◌, ap, ap₂, subst, arith}
 use Rattle.std.specs.List.{AllByRecursion}
 use Rattle.bridge_io.specs.{declared.place.Place.Place, declared.media.Kind.Kind, declared.media.Kind.TheVariants.{Video, Audio, Text}}
 use Rattle.url_parts.specs.declared.address.Part.{Part}
 use Rattle.mpd_values.specs.MediaTypes.{kind_of}
-use Rattle.mpd_text.specs.{Trees.Element, Views.side_by_side}
-use Rattle.mpd_markup.specs.{Placed.{past, placed}, Markup.{Tag, opening}}
+use Rattle.mpd_tree.specs.{Trees.Element, Views.side_by_side, Placed.{past, placed}, Markup.{Tag, opening}}
 use Rattle.mpd_profile.specs.{Heads.value_named, LeftOut.{type_of, is_representation_left_out}}
 use Rattle.mpd_levels.specs.Segments.{Segments, segments_of}
 use Rattle.mpd_rules.specs.{Kept.{Path, is_kept, levels_of, path_in}, Readings.base_reference, Typed.track_of}
 use Rattle.presentation.specs.declared.track.Track.{Track}
-use Rattle.dash_writer.specs.{Elements.{Element as Written, in_order, tag_of}, Lists.list_with, Outline.mime_type}
-use Rattle.dash_writer.specs.Outline.{representation_attributes, track_element, track_elements}
+use Rattle.dash_writer.specs.{Elements.{Element as Written, in_order, tag_of}, Lists.list_with}
+use Rattle.dash_writer.specs.Outline.{mime_type, representation_attributes, track_element, track_elements}
 use Rattle.laws_of_mpds.specs.{Told.{AreNamed, AreReadableTimes, list_told, read_at}, Shown.{shown_row, shown_tracks}}
 use Rattle.laws_of_mpds.proofs.{Lists.timed_lists, Views.{behind, has_none, no_base, value_read}}
 

@@ -5,19 +5,18 @@ use Rattle.std.proofs.Common.{◌∙◌, ap, ap₂}
 use Rattle.std.specs.{Prelude.{ℤ, Bool, option_and_then}, List.list_all}
 use Rattle.bridge_io.specs.declared.place.Place.{Place}
 use Rattle.iso_time.specs.{Duration.duration_text, Laws.DurationsAreReadAgain}
-use Rattle.mpd_text.specs.{Trees.Element, Views.side_by_side}
-use Rattle.mpd_markup.specs.{Placed.{past, placed, root_place}, Markup.opening}
+use Rattle.mpd_tree.specs.{Trees.Element, Views.side_by_side, Placed.{past, placed, root_place}, Markup.opening}
 use Rattle.mpd_profile.specs.Heads.{or_else, value_named}
 use Rattle.mpd_levels.specs.Segments.{Segments, segments_of}
 use Rattle.mpd_rules.specs.{Kept.{is_kept, paths_of}, Periods.{bounds_from, first_start, said_of, start_said, timed_of, total_of}}
 use Rattle.mpd_rules.specs.{Readings.{base_reference, duration_in}, Rules.dash_values, Typed.{facts_of, period_of, track_of}}
 use Rattle.presentation.specs.declared.track.Track.{Track}
-use Rattle.dash_writer.specs.{Elements.{Attribute, Element as Written, in_order, tag_of}, Runs.longest_runs, Outline.{Outline, heads_from}}
-use Rattle.dash_writer.specs.Outline.{period_element, period_elements, root_element, sets_of, stand_together}
+use Rattle.dash_writer.specs.{Elements.{Attribute, Element as Written, in_order, tag_of}, Runs.longest_runs}
+use Rattle.dash_writer.specs.Outline.{Outline, heads_from, period_element, period_elements, root_element, sets_of, stand_together}
 use Rattle.laws_of_mpds.specs.Shown.{ShownPeriod, ShownTrack, shown_of, shown_period, shown_periods, shown_row, shown_tracks}
 use Rattle.laws_of_mpds.specs.Told.{AreNamed, is_named as is_named_so, read_at}
-use Rattle.laws_of_mpds.proofs.{Reading.duration_read, Representations.{Around, HasAll}, Sets.{sets_named, tracks_shown}, Views.behind}
-use Rattle.laws_of_mpds.proofs.Views.{no_base, value_in, value_read}
+use Rattle.laws_of_mpds.proofs.{Reading.duration_read, Representations.{Around, HasAll}, Sets.{sets_named, tracks_shown}}
+use Rattle.laws_of_mpds.proofs.Views.{behind, no_base, value_in, value_read}
 
 -- ---- one Period
 

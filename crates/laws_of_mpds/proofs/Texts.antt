@@ -2,16 +2,17 @@
 use Rattle.std.proofs.Common.{ℕ, ◌+◌, ◌<◌, List, [], ◌∷◌, length, codes, None, refl, sym, ◌∙◌, ap, subst, arith}
 use Rattle.std.specs.{Prelude.option_and_then, List.AllByRecursion, Result.result_ok}
 use Rattle.iso_time.specs.Duration.{duration_text}
-use Rattle.mpd_text.specs.Characters.{starts_name, goes_on_name}
-use Rattle.presentation.specs.{declared.track.Section.Section, Presented.Presented, Meanings.{dash_meaning, meaning_if_counted}}
+use Rattle.mpd_tree.specs.{Characters.{starts_name, goes_on_name}, Placed.{IsLegalTag, PrintedAreRead}}
+use Rattle.presentation.specs.{declared.track.Section.Section, Presented.Presented}
+use Rattle.mpd_presentation.specs.Meanings.{dash_meaning, meaning_if_counted}
 use Rattle.mpd_rules.specs.Rules.{dash_values}
-use Rattle.mpd_markup.specs.Placed.{IsLegalTag, PrintedAreRead}
-use Rattle.dash_writer.specs.{Elements.{Element as Written, tag_of}, Manifest.{all_period_attributes, last_end, manifest_text, outline_of}}
-use Rattle.dash_writer.specs.Manifest.{period_attributes, root_of, segment_lists}
+use Rattle.dash_writer.specs.Elements.{Element as Written, tag_of}
+use Rattle.dash_writer.specs.Manifest.{all_period_attributes, last_end, manifest_text, outline_of, period_attributes, root_of}
+use Rattle.dash_writer.specs.Manifest.{segment_lists}
 use Rattle.laws_of_mpds.specs.{Meant.IsWritable, Texts.{IsTellable, TextsMean}}
-use Rattle.laws_of_mpds.proofs.{Fine.{AreFine, ArePrintable, by_recursion, fine_list, finished_legal, number, root_legal}, Given.HasPlain}
-use Rattle.laws_of_mpds.proofs.{Given.{has_plain, list_of, trees_mean}, Legal.{IsFine, legal_tag, maybe_plain}, Periods.outline_with}
-use Rattle.laws_of_mpds.proofs.Plain.{carried, duration_plain}
+use Rattle.laws_of_mpds.proofs.Fine.{AreFine, ArePrintable, by_recursion, fine_list, finished_legal, number, root_legal}
+use Rattle.laws_of_mpds.proofs.{Given.{HasPlain, has_plain, list_of, trees_mean}, Legal.{IsFine, legal_tag, maybe_plain}}
+use Rattle.laws_of_mpds.proofs.{Periods.outline_with, Plain.{carried, duration_plain}}
 
 fine_lists : (p : Presented) (s : ℕ) → IsWritable p → s < length p.sections → AreFine (segment_lists p s) 0 (length p.tracks)
 fine_lists p s w within i from below =

@@ -4,13 +4,12 @@ use Rattle.std.proofs.{Common.{Option, Some, None, option_map, refl, sym, ◌∙
 use Rattle.std.specs.{Prelude.{decimal, sum, option_and_then, option_to_list}, List.AllByRecursion, Result.result_ok}
 use Rattle.iso_time.specs.Laws.{DurationsAreReadAgain}
 use Rattle.timeline.specs.declared.window.Window.{Window}
-use Rattle.mpd_text.specs.Meaning.{reading_of}
-use Rattle.mpd_markup.specs.Placed.{past, PrintedAreRead, root_place}
+use Rattle.mpd_tree.specs.{Meaning.reading_of, Placed.{past, PrintedAreRead, root_place}}
 use Rattle.mpd_profile.specs.Heads.{is_word}
 use Rattle.mpd_rules.specs.{Readings.instant_in, Rules.dash_values}
-use Rattle.presentation.specs.{declared.parts.Content.Content, declared.track.Section.Section, Presented.{Presented, content_at}}
-use Rattle.presentation.specs.{Presented.{whole_window, window_of}, Meanings.{content_meant, dash_meaning, entry_at, entry_of}}
-use Rattle.presentation.specs.Meanings.{meaning_if_counted}
+use Rattle.presentation.specs.{declared.parts.Content.Content, declared.track.Section.Section}
+use Rattle.presentation.specs.{Presented.{Presented, content_at, whole_window, window_of}, Meanings.{entry_at, entry_of}}
+use Rattle.mpd_presentation.specs.Meanings.{content_meant, dash_meaning, meaning_if_counted}
 use Rattle.dash_writer.specs.{Lists.list_with, Manifest.{last_end, period_attributes, root_attributes}, Outline.root_element}
 use Rattle.dash_writer.specs.Timed.{CanBeCounted, lengths, sections_from, timed_list, timed_lists, timed_outline, timed_sections}
 use Rattle.dash_writer.specs.{Timed.timed_text, declared.timed.TickRun.TickRun}
@@ -18,9 +17,9 @@ use Rattle.laws_of_mpds.specs.{Contents.{IsOwnPart, IsPlain, IsPlainFrom}, Meant
 use Rattle.laws_of_mpds.specs.Timed.{AreTimesOf, IsTimed, TimedTextsAreRead, TimedTextsMean, content_with, contents_with, files_of}
 use Rattle.laws_of_mpds.specs.{Timed.{run_told, timed_as, told_in}, Told.{IsShort, list_told, read_at}}
 use Rattle.laws_of_mpds.proofs.{Contents.{parts_are, timed_contents}, Fine.{AreFine, by_recursion, fine_list, finished_legal, root_legal}}
-use Rattle.laws_of_mpds.proofs.{Given.{HasPlain, all_readable, fits, has_plain, ticks_counted, window_is}, Legal.IsFine, Live.at_index}
-use Rattle.laws_of_mpds.proofs.{Live.some_at, Periods.{AreMeant, Means, outline_means}, Representations.Has, Shown.{AreTold, TellsRoot}}
-use Rattle.laws_of_mpds.proofs.{Shown.outline_shown, Texts.printable, Views.value_read}
+use Rattle.laws_of_mpds.proofs.{Given.{HasPlain, all_readable, fits, has_plain, ticks_counted, window_is}, Legal.IsFine}
+use Rattle.laws_of_mpds.proofs.{Live.{at_index, some_at}, Periods.{AreMeant, Means, outline_means}, Representations.Has}
+use Rattle.laws_of_mpds.proofs.{Shown.{AreTold, TellsRoot, outline_shown}, Texts.printable, Views.value_read}
 
 -- ---- numbers below a sum of theirs
 

@@ -1,12 +1,12 @@
 -- What elements that are written say when they are read.
-use Rattle.mpd_text.specs.Trees as tree
+use Rattle.mpd_tree.specs.Trees as tree
 use Rattle.std.proofs.Common.{◌≡◌, ℕ, Bool, true, false, List, [], ◌∷◌, ◌++◌, codes, find, bytes_eq, Option, Some, None, option_map}
 use Rattle.std.proofs.{Common.{if◌then◌else◌, refl, ◌∙◌, ap}, lemmas.Bool.and_parts}
 use Rattle.std.specs.List.{list_all}
 use Rattle.bridge_io.proofs.Texts.{same_bytes}
 use Rattle.bridge_io.specs.declared.place.Place.{Place}
-use Rattle.mpd_text.specs.Views.{side_by_side}
-use Rattle.mpd_markup.specs.{Placed.{past, attributes_at, placed}, Markup.{Tag, opening, enclosed, printed, attribute_text}}
+use Rattle.mpd_tree.specs.{Views.side_by_side, Placed.{past, attributes_at, placed}}
+use Rattle.mpd_tree.specs.Markup.{Tag, opening, enclosed, printed, attribute_text}
 use Rattle.mpd_profile.specs.Heads.{is_named, or_else, has_child}
 use Rattle.mpd_rules.specs.Readings.{base_reference}
 use Rattle.dash_writer.specs.Elements.{Attribute, Element as Written, in_order, attributes_of}

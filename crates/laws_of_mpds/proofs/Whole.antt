@@ -5,7 +5,8 @@ use Rattle.bridge_io.proofs.AndThen.{steps_of}
 use Rattle.hls_master.specs.declared.track.MasterTrack.{MasterTrack}
 use Rattle.hls_media.specs.{Laws.IsBounded, declared.media.Media.Media}
 use Rattle.presentation.specs.{declared.track.Track.Track, Presented.{Presented, of_parts}}
-use Rattle.hls_presentation.specs.{declared.fault.HlsFault.TheVariants.{Limit, NoTracks, SectionsDiffer}, Presenting.contents_of}
+use Rattle.hls_presentation.specs.Presenting.{contents_of}
+use Rattle.layer_faults.specs.declared.hls.HlsFault.TheVariants.{Limit, NoTracks, SectionsDiffer}
 use Rattle.hls_presentation.specs.Presenting.{flattened, hls_presented_of, nanos_by_tick, parts_with, presented_from, presented_of_kept}
 use Rattle.hls_presentation.specs.{Presenting.track_of, Sections.{all_alike, groups_in, is_over_limit, rows_of, section_count}}
 use Rattle.hls_presentation.specs.{Sections.whole_faults, Tracks.{Source, fault_if, is_kept, kept, left_out, sources, track_faults}}

@@ -3,7 +3,8 @@ use Rattle.std.specs.{Prelude.{◌≡◌, ℕ, ◌+◌, ◌<◌, List, [], lengt
 use Rattle.url_parts.specs.{Addresses.IsAddress, declared.address.Part.Part}
 use Rattle.timeline.specs.{declared.entry.End.End, declared.names.Names.TheVariants.Addresses, Expansions.Closed}
 use Rattle.mpd_rules.specs.declared.rows.Description.{Description}
-use Rattle.presentation.specs.{declared.parts.Content.Content, Presented.{listed_in, whole_window}, Meanings.{content_meant, entry_of}}
+use Rattle.presentation.specs.{declared.parts.Content.Content, Presented.{listed_in, whole_window}, Meanings.entry_of}
+use Rattle.mpd_presentation.specs.Meanings.{content_meant}
 use Rattle.laws_of_mpds.specs.{Rows.in_row, Told.{IsReadable, IsShort, list_told, told_of}}
 
 -- a file, or some bytes of one, by an address that is resolved to itself

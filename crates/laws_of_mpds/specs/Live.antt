@@ -2,7 +2,7 @@
 use Rattle.std.specs.Prelude.{◌≡◌, ℕ, ◌^◌, ◌<◌, ℤ, not, List, length, map, slice_get, decimal, All, Option, Some, None, option_map}
 use Rattle.std.specs.{Prelude.{option_and_then, if◌then◌else◌}, List.AllByRecursion, Result.result_ok}
 use Rattle.iso_time.specs.{Instant.IsReadable as IsReadableInstant, Laws.floor_millis}
-use Rattle.mpd_text.specs.Meaning.{reading_of}
+use Rattle.mpd_tree.specs.Meaning.{reading_of}
 use Rattle.mpd_levels.specs.Segments.{Segments}
 use Rattle.mpd_rules.specs.Rules.{dash_values}
 use Rattle.dash_writer.specs.{Live.{IsLive, first_time, live_text, part_of}, declared.live.LiveMpd.LiveMpd}

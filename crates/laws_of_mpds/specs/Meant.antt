@@ -4,9 +4,10 @@ use Rattle.bridge_io.specs.{declared.media.Kind.Kind, declared.media.Kind.TheVar
 use Rattle.meaning.specs.Meanings.{Entry}
 use Rattle.timeline.specs.declared.entry.End.{End}
 use Rattle.mpd_rules.specs.Rules.{dash_values}
-use Rattle.presentation.specs.{declared.track.Track.Track, Presented.{Presented, AreFilled, whole_window}, Meanings.content_of_row}
-use Rattle.presentation.specs.{Meanings.{entry_at, entry_of, meaning_if_counted, meaning_of}, Rows.Row}
-use Rattle.mpd_markup.specs.Placed.{root_place}
+use Rattle.presentation.specs.{declared.track.Track.Track, Presented.{Presented, AreFilled, whole_window}}
+use Rattle.presentation.specs.Meanings.{entry_at, entry_of, meaning_of}
+use Rattle.mpd_presentation.specs.{Meanings.{content_of_row, meaning_if_counted}, Rows.Row}
+use Rattle.mpd_tree.specs.Placed.{root_place}
 use Rattle.dash_writer.specs.Manifest.{root_of}
 use Rattle.laws_of_mpds.specs.{Told.read_at, Contents.IsPlain}
 

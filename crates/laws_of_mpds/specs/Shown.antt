@@ -3,7 +3,8 @@ use Rattle.std.specs.Prelude.{ℕ, ◌+◌, ℤ, Bool, List, [], ◌∷◌, map,
 use Rattle.bridge_io.specs.declared.media.Kind.{Kind}
 use Rattle.mpd_levels.specs.Segments.{Segments}
 use Rattle.mpd_rules.specs.Typed.{TypedMpd}
-use Rattle.presentation.specs.{declared.track.Track.Track, Rows.{Period, Row}}
+use Rattle.presentation.specs.declared.track.Track.{Track}
+use Rattle.mpd_presentation.specs.Rows.{Period, Row}
 
 -- a Representation (ISO/IEC 23009-1, 5.3.5 and 5.3.9)
 pub record ShownTrack : Type 0 where

@@ -1,7 +1,8 @@
 -- What the text of a written MPD means.
 use Rattle.std.specs.{Prelude.{◌≡◌, ℕ, ℤ, nat_le, IsTrue, List, All, Option, Some, IfSome}, List.list_all}
-use Rattle.mpd_text.specs.Grammar.{IsClean}
-use Rattle.presentation.specs.{declared.track.Track.Track, Presented.Presented, Meanings.{dash_meaning, meaning_of}}
+use Rattle.mpd_tree.specs.Grammar.{IsClean}
+use Rattle.presentation.specs.{declared.track.Track.Track, Presented.Presented, Meanings.meaning_of}
+use Rattle.mpd_presentation.specs.Meanings.{dash_meaning}
 use Rattle.dash_writer.specs.Manifest.{manifest_text}
 use Rattle.laws_of_mpds.specs.Meant.{IsWritable}
 

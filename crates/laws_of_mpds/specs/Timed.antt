@@ -3,14 +3,15 @@ use Rattle.std.specs.Prelude.{◌≡◌, ℕ, ◌+◌, ◌*◌, ◌<◌, ℤ, fa
 use Rattle.std.specs.{Prelude.{option_map, option_and_then}, List.AllByRecursion, Result.result_ok}
 use Rattle.url_parts.specs.declared.address.Part.{Part}
 use Rattle.timeline.specs.{declared.names.Names.TheVariants.Addresses, Expansions.Closed}
-use Rattle.mpd_text.specs.Meaning.{reading_of}
+use Rattle.mpd_tree.specs.Meaning.{reading_of}
 use Rattle.mpd_levels.specs.Segments.{Segments}
 use Rattle.mpd_rules.specs.Rules.{dash_values}
-use Rattle.presentation.specs.{declared.parts.Content.Content, declared.track.Section.Section, Presented.{Presented, content_at, listed_in}}
-use Rattle.presentation.specs.{Presented.whole_window, Meanings.{dash_meaning, meaning_of}}
+use Rattle.presentation.specs.{declared.parts.Content.Content, declared.track.Section.Section}
+use Rattle.presentation.specs.{Presented.{Presented, content_at, listed_in, whole_window}, Meanings.meaning_of}
+use Rattle.mpd_presentation.specs.Meanings.{dash_meaning}
 use Rattle.dash_writer.specs.{Lists.parts_of, Timed.{CanBeTimed, timed_sections, timed_text}, declared.timed.TickRun.TickRun}
-use Rattle.laws_of_mpds.specs.{Meant.IsWritable, Rows.in_row, Shown.{Shown, shown_of, shown_periods}, Texts.IsTellable, Told.IsShort}
-use Rattle.laws_of_mpds.specs.Told.{list_told}
+use Rattle.laws_of_mpds.specs.{Meant.IsWritable, Rows.in_row, Shown.{Shown, shown_of, shown_periods}, Texts.IsTellable}
+use Rattle.laws_of_mpds.specs.Told.{IsShort, list_told}
 
 -- ---- a presentation by the times of its files
 

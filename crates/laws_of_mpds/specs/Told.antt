@@ -1,15 +1,14 @@
 -- What is read of the segments of a Representation that are listed (ISO/IEC 23009-1, 5.3.9).
-use Rattle.std.specs.Prelude.{◌≡◌, ℕ, ◌+◌, ◌^◌, ◌<◌, ◌≤◌, pos, Bool, true, List, [], ◌∷◌, ◌++◌, length, map, codes, bytes_eq, Option, Some}
-use Rattle.std.specs.{Prelude.{None, unwrap_or, IfSome}, List.{list_all, AllByRecursion}}
+use Rattle.std.specs.Prelude.{◌≡◌, ℕ, ◌+◌, ◌^◌, ◌<◌, ◌≤◌, pos, Bool, true, List, [], ◌∷◌, ◌++◌, length, map, codes, bytes_eq, Option}
+use Rattle.std.specs.{Prelude.{Some, None, unwrap_or, IfSome}, List.{list_all, AllByRecursion}}
 use Rattle.bridge_io.specs.declared.place.Place.{Place}
 use Rattle.url_parts.specs.{declared.address.Part.Part, declared.range.Range.Range}
-use Rattle.timeline.specs.{declared.entry.SEntry.SEntry, declared.names.RefPart.RefPart, Expansions.{SegmentTimeline, Timing}}
-use Rattle.timeline.specs.Listed.{part_of_timing}
-use Rattle.mpd_text.specs.Trees.{Element}
-use Rattle.mpd_markup.specs.{Placed.{past, head_at, placed}, Markup.{Tag, opening}}
+use Rattle.timeline.specs.{Expansions.{SegmentTimeline, Timing}, Listed.part_of_timing}
+use Rattle.mpd_entries.specs.{declared.entry.SEntry.SEntry, declared.ref_part.RefPart.RefPart}
+use Rattle.mpd_tree.specs.{Trees.Element, Placed.{past, head_at, placed}, Markup.{Tag, opening}}
 use Rattle.mpd_levels.specs.Segments.{Segments, if_any, segments_of}
-use Rattle.dash_writer.specs.{Elements.{Element as Written, in_order}, Lists.list_with, Runs.longest_runs, Segments.duration_of}
-use Rattle.dash_writer.specs.Segments.{part_or_none, same_duration, segment_list}
+use Rattle.dash_writer.specs.{Elements.{Element as Written, in_order}, Lists.list_with, Runs.longest_runs}
+use Rattle.dash_writer.specs.Segments.{duration_of, part_or_none, same_duration, segment_list}
 
 -- ---- elements
 

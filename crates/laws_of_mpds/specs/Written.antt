@@ -4,7 +4,8 @@ use Rattle.url_parts.specs.{Addresses.IsAddress, declared.address.Part.Part}
 use Rattle.hls_master.specs.{declared.track.MasterTrack.MasterTrack, Masters.master_of, SeenTracks.track_seen, Tracks.TrackValue}
 use Rattle.hls_media.specs.{Laws.IsBounded, Media.media_of, declared.media.Media.Media, declared.media.MediaSegment.MediaSegment}
 use Rattle.hls_presentation.specs.Presenting.{hls_presented_of}
-use Rattle.presentation.specs.{Presented.Presented, Meanings.{dash_meaning, meaning_of}}
+use Rattle.presentation.specs.{Presented.Presented, Meanings.meaning_of}
+use Rattle.mpd_presentation.specs.Meanings.{dash_meaning}
 use Rattle.dash_writer.specs.Manifest.{manifest_text}
 use Rattle.laws_of_mpds.specs.{Meant.are_in_order, Texts.IsCarried}
 

@@ -7,7 +7,7 @@ ghost use Rattle.laws_of_mpds.specs.Texts.{TextsMean};
 ghost use Rattle.laws_of_mpds.specs.Timed.{TimedTextsAreRead, TimedTextsMean};
 
 use iso_time::laws::{durations_are_read_again, instants_are_read_again};
-use mpd_markup::printed_trees_are_read;
+use mpd_tree::printed_trees_are_read;
 
 /// The segments of a Representation whose only child is a written SegmentList, where neither its set nor its Period has a
 /// child but for sets and Representations, are told as they were written (ISO/IEC 23009-1, 5.3.9).

@@ -2,8 +2,8 @@
 use Rattle.timeline.specs.declared.names.Names.TheVariants as names
 use Rattle.presentation.specs.Meanings as presentation
 use Rattle.index_parts.specs.Located as located
-use Rattle.std.proofs.Common.{◌≡◌, ℕ, suc, ◌+◌, ◌-◌, ◌<◌, ◌*ℤ◌, false, List, [], ◌∷◌, map, slice_get, take, drop, Option, None, Some, Ok}
-use Rattle.std.proofs.{Common.{refl, sym, ◌∙◌, ap, arith}, lemmas.Bool.or_parts}
+use Rattle.std.proofs.Common.{◌≡◌, ℕ, suc, ◌+◌, ◌-◌, ◌<◌, false, List, [], ◌∷◌, map, slice_get, take, drop, Option, None, Some, Ok, refl}
+use Rattle.std.proofs.{Common.{sym, ◌∙◌, ap, arith}, lemmas.Bool.or_parts}
 use Rattle.std.specs.{Prelude.{option_and_then, option_map}, List.list_any, Result.result_ok}
 use Rattle.bridge_io.proofs.AndThen.{steps_of}
 use Rattle.bridge_io.specs.Outside.{Files}
@@ -14,11 +14,12 @@ use Rattle.timeline.specs.{declared.fault.TimeFault.TheVariants.ZeroDuration, Ex
 use Rattle.timeline.specs.{Faults.{fault_if, lasts_no_time}, Listed.listed, Names.referred}
 use Rattle.timeline.proofs.OpenEnds.{no_faults, unless}
 use Rattle.url_parts.specs.{declared.address.Part.Part, declared.range.Range.Range}
-use Rattle.presentation.specs.{Meanings.{part_meant, segment_of}, Presented.{listed_in, whole_window}, Told.part_with}
+use Rattle.presentation.specs.{Meanings.{part_meant, segment_of, part_with}, Presented.{listed_in, whole_window}}
 use Rattle.presentation.proofs.{Meant.{chained, reached}, WholeWindow.{expanded, one_listed, part_at_place}}
 use Rattle.segment_index.specs.{declared.reference.Reference.Reference, Index.{Index, index_of}}
-use Rattle.index_parts.specs.{Located.{part_before, track_parts}, Meanings.{entry_at, entry_by, entry_of, entry_with, index_among}}
-use Rattle.index_parts.specs.{Meanings.{initialization_by, segments_from, segments_of}, Presented.contents_in, Rows.{Row, told_in}}
+use Rattle.index_parts.specs.Located.{part_before, track_parts}
+use Rattle.index_parts.specs.Meanings.{entry_at, entry_by, entry_of, entry_with, index_among, initialization_by, segments_from}
+use Rattle.index_parts.specs.{Meanings.segments_of, Presented.contents_in, Rows.{Row, told_in}}
 use Rattle.index_parts.specs.Segments.{extents_from, extents_in, part_of, parts_from, parts_in, ticks_of}
 use Rattle.index_parts.proofs.Tiles.{IsTold, fault_in, is_told, timeline_in}
 

@@ -11,11 +11,13 @@ use Rattle.mpd_levels.specs.declared.indexed.IndexRow.{IndexRow}
 use Rattle.mpd_profile.specs.declared.fault.RuleFault.{RuleFault}
 use Rattle.mpd_rules.specs.{Rules.{all_index_refusals, index_values, indexed_mpd_of, unless_refused}, Typed.TypedMpd}
 use Rattle.presentation.specs.{declared.parts.Content.Content, declared.track.Track.Track, Meanings.{meaning_with, row_at}}
-use Rattle.presentation.specs.{Presented.{Presented, whole_window}, Rows.{in_order, track_of}}
-use Rattle.presentation.proofs.{Allowed.each_at, Grids.{found, same_members}, Joining.seen_twice}
-use Rattle.index_parts.specs.{Located.track_parts, Meanings.{all_of, entry_of, head_of, indexed_meaning, meaning_by, meaning_of}}
-use Rattle.index_parts.specs.{Meanings.{meaning_over, with_first}, Presented.{all_parts, contents_in, indexed_of, nothing, presented_by}}
-use Rattle.index_parts.specs.{Presented.presented_with, Rows.{Period, Row}}
+use Rattle.presentation.specs.Presented.{Presented, whole_window}
+use Rattle.mpd_presentation.specs.Rows.{in_order, track_of}
+use Rattle.presentation.proofs.{Allowed.each_at, Grids.{found, same_members}}
+use Rattle.mpd_presentation.proofs.Joining.{seen_twice}
+use Rattle.index_parts.specs.Located.{track_parts}
+use Rattle.index_parts.specs.Meanings.{all_of, entry_of, head_of, indexed_meaning, meaning_by, meaning_of, meaning_over, with_first}
+use Rattle.index_parts.specs.{Presented.{all_parts, contents_in, indexed_of, nothing, presented_by, presented_with}, Rows.{Period, Row}}
 use Rattle.laws_of_playlists.specs.IndexMeant.{IndexedAreMeant, IndexedTextsAreMeant}
 use Rattle.laws_of_playlists.proofs.{IndexEntries.{Listed, track_meant}, IndexPresented.{IsPresented, is_presented}}
 

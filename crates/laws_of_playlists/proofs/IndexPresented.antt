@@ -1,14 +1,15 @@
 -- What the presentation of an MPD and its media files is made of.
 use Rattle.index_parts.specs.declared.fault.IndexFault.TheVariants as fault
-use Rattle.std.proofs.Common.{◌≡◌, ℕ, ◌≤◌, nat_lt, Bool, true, false, List, [], ◌∷◌, length, map, All, Ok, Err, refl, ◌∙◌, ap, subst, arith}
-use Rattle.std.proofs.{lemmas.Bool.Decides.nat_tests, lemmas.List.Elements.{All-cons, All-head, All-nil, All-tail}}
+use Rattle.std.proofs.Common.{◌≡◌, ℕ, ◌≤◌, nat_lt, Bool, true, false, List, [], ◌∷◌, length, map, All, Ok, Err, refl, ◌∙◌, ap, subst}
+use Rattle.std.proofs.{Common.arith, lemmas.Bool.Decides.nat_tests, lemmas.List.Elements.{All-cons, All-head, All-nil, All-tail}}
 use Rattle.std.specs.Prelude.{if◌then◌else◌}
 use Rattle.bridge_io.proofs.AndThen.{steps_of}
 use Rattle.bridge_io.specs.{Answer.and_then, Outside.Files}
 use Rattle.presentation.specs.{declared.fault.PresentationFault.TheVariants.Limit, declared.parts.Content.Content, Presented.Presented}
-use Rattle.presentation.specs.Rows.{in_order, track_of}
-use Rattle.index_parts.specs.{declared.fault.IndexFault.IndexFault, Located.track_parts, Presented.{all_parts, contents_in, few_segments}}
-use Rattle.index_parts.specs.{Presented.{few_tracks, nothing, presented_by, presented_in, presented_with, total}, Rows.{Period, Row}}
+use Rattle.mpd_presentation.specs.Rows.{in_order, track_of}
+use Rattle.index_parts.specs.{declared.fault.IndexFault.IndexFault, Located.track_parts}
+use Rattle.index_parts.specs.Presented.{all_parts, contents_in, few_segments, few_tracks, nothing, presented_by, presented_in}
+use Rattle.index_parts.specs.{Presented.{presented_with, total}, Rows.{Period, Row}}
 use Rattle.laws_of_playlists.proofs.IndexEntries.{Listed}
 
 unless : {X : Type 0} (many : Bool) (e : IndexFault) (x y : X) → (if many then Err e else Ok x) ≡ Ok y → (many ≡ false) × (x ≡ y)

@@ -1,5 +1,7 @@
 -- The presentation of an MPD and its media files can be written and read again.
 use Rattle.mpd_levels.specs.declared.level.Means.TheVariants as means
+use Rattle.mpd_presentation.proofs.Pace.{IsSound as AreSound}
+use Rattle.mpd_profile.specs.declared.listed.Addressing.TheVariants.{Index as Indexed}
 use Rattle.std.proofs.Common.{◌≡◌, ℕ, zero, suc, ◌+◌, ◌*◌, ◌<◌, ◌≤◌, ◌^◌, ◌==◌, nat_lt, Bool, true, false, List, [], ◌∷◌, ◌++◌, flat_map}
 use Rattle.std.proofs.{Common.{length, map, All, Option, Some, None, IfSome, Ok, refl, sym, ap, subst, arith}, lemmas.Bool.or_parts}
 use Rattle.std.proofs.{lemmas.Bool.Decides.nat_tests, lemmas.List.length-map, lemmas.List.Elements.{All-cons, All-nil}}
@@ -8,35 +10,35 @@ use Rattle.std.specs.{Prelude.{◌-◌, if◌then◌else◌, option_map, slice_g
 use Rattle.bridge_io.proofs.AndThen.{steps_of}
 use Rattle.exact_time.proofs.TimeOrder.{at_most-false}
 use Rattle.bridge_io.specs.Outside.{Files}
-use Rattle.mpd_text.specs.Trees.{Element}
-use Rattle.mpd_profile.specs.declared.listed.Addressing.TheVariants.{Index as Indexed}
+use Rattle.mpd_tree.specs.Trees.{Element}
 use Rattle.mpd_levels.specs.{declared.indexed.IndexRow.IndexRow, declared.initialization.Initialization.Initialization}
 use Rattle.mpd_levels.specs.{declared.level.Means.Means, Indexed.{index_by, index_in, index_of}, Levels.{base_name, used}}
 use Rattle.mpd_levels.specs.Readings.{child_named}
 use Rattle.mpd_rules.specs.{Indexes.index_told, Kept.{Path, levels_of}, Typed.track_of as row_at}
 use Rattle.url_parts.specs.{Addresses.IsAddress, declared.address.Part.Part, declared.range.Range.Range}
-use Rattle.timeline.specs.{declared.fault.TimeFault.TheVariants.ZeroDuration, Expansions.{Closed, Extent, is_open}, Faults.fault_if}
-use Rattle.timeline.specs.{Faults.{lasts_no_time, segment_fault}, Limits.{span_breaks_limits, too_long}, Names.{own_part, referred}}
-use Rattle.timeline.specs.Steady.{AreLasting}
+use Rattle.timeline.specs.{declared.fault.TimeFault.TheVariants.ZeroDuration, Expansions.{Closed, Extent, is_open}}
+use Rattle.timeline.specs.{Faults.{fault_if, lasts_no_time, segment_fault}, Limits.{span_breaks_limits, too_long}}
+use Rattle.timeline.specs.{Names.{own_part, referred}, Steady.AreLasting}
 use Rattle.timeline.proofs.{Judged.not_long, OpenEnds.no_faults, Rises.steady_from}
-use Rattle.presentation.specs.{declared.parts.Content.Content, Presented.{Presented, content_at, is_finished, window_of}, Rows.in_order}
-use Rattle.presentation.specs.{Rows.track_of, Told.part_with}
+use Rattle.presentation.specs.{declared.parts.Content.Content, Presented.{Presented, content_at, is_finished, window_of}}
+use Rattle.presentation.specs.Meanings.{part_with}
+use Rattle.mpd_presentation.specs.Rows.{in_order, track_of}
 use Rattle.presentation.proofs.{Filling.{all_in_order, length_in_order}, OwnListed.reached, Reached.{none_first, none_later}}
-use Rattle.presentation.proofs.Pace.{IsSound as AreSound}
 use Rattle.segment_index.specs.{declared.reference.Reference.Reference, Index.Index, Laws.end_from}
 use Rattle.laws_of_playlists.specs.Origins.{AreLocated, HasIndex, IndexesAreTold, IndexedTracksAreWritable, IsElementOfBytes, IsFound}
 use Rattle.laws_of_playlists.specs.{Origins.{IsLocated, IsOfBytes, IsSomeBytes}, Tracks.{AreWritable, AreWritableIfFew}}
 use Rattle.laws_of_playlists.specs.IndexOrigins.{CameFromIndexes, IndexedAreFew, IndexedAreFinished, IndexedAreInPace, IndexedAreWritable}
 use Rattle.laws_of_playlists.specs.IndexOrigins.{IndexedInitializationsAreLocated, IndexedPartsAreLocated}
-use Rattle.laws_of_playlists.proofs.{OriginKept.clean_index, OriginListed.by_content, OriginOrder.non_decreasing, OriginParts.IsContentWell}
-use Rattle.laws_of_playlists.proofs.OriginParts.{IsInitializationOfBytes, IsPathOfBytes, at_place, bases_bytes, chain_is_address, child_is}
-use Rattle.laws_of_playlists.proofs.OriginParts.{first_found, initialization_is, levels_bytes, mapped, paths_bytes, referred_is_address}
-use Rattle.laws_of_playlists.proofs.{OriginTracks.each_row, IndexEntries.{Listed, all_last}, IndexPresented.{IsPresented, all_have}}
-use Rattle.laws_of_playlists.proofs.IndexPresented.{of_first}
-use Rattle.index_parts.specs.{declared.fault.FileFault.TheVariants.{Nested, Range as TooFar, ZeroSize}, Found.{empty_faults, index_faults}}
-use Rattle.index_parts.specs.{Found.{range_faults, reference_faults, scale_faults}, Located.{initialization_by, part_before, track_parts}}
-use Rattle.index_parts.specs.{Presented.{indexed_of, nothing}, Rows.{Period, Row, told_in}, Segments.{extent_of, extents_from, extents_in}}
-use Rattle.index_parts.specs.Segments.{part_of, parts_from, parts_in, ticks_of}
+use Rattle.laws_of_playlists.proofs.{OriginKept.clean_index, OriginListed.by_content, OriginOrder.non_decreasing}
+use Rattle.laws_of_playlists.proofs.OriginParts.{IsContentWell, IsInitializationOfBytes, IsPathOfBytes, at_place, bases_bytes}
+use Rattle.laws_of_playlists.proofs.OriginParts.{chain_is_address, child_is, first_found, initialization_is, levels_bytes, mapped}
+use Rattle.laws_of_playlists.proofs.{OriginParts.{paths_bytes, referred_is_address}, OriginTracks.each_row, IndexEntries.{Listed, all_last}}
+use Rattle.laws_of_playlists.proofs.IndexPresented.{IsPresented, all_have, of_first}
+use Rattle.layer_faults.specs.declared.index.FileFault.TheVariants.{Nested, Range as TooFar, ZeroSize}
+use Rattle.index_parts.specs.Found.{empty_faults, index_faults, range_faults, reference_faults, scale_faults}
+use Rattle.index_parts.specs.{Located.{initialization_by, part_before, track_parts}, Presented.{indexed_of, nothing}}
+use Rattle.index_parts.specs.Rows.{Period, Row, told_in}
+use Rattle.index_parts.specs.Segments.{extent_of, extents_from, extents_in, part_of, parts_from, parts_in, ticks_of}
 use Rattle.index_parts.proofs.{Ends.ends_behind, Tiles.{IsTold, fault_in, is_told}}
 
 -- ---- what an MPD of bytes says of indexes

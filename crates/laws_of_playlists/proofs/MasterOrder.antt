@@ -1,18 +1,19 @@
 -- The mentions of the tracks of a presentation, in their order.
-use Rattle.std.proofs.Common.{◌≡◌, ℕ, zero, suc, ◌+◌, ◌^◌, ◌<◌, ◌≤◌, Bool, true, false, eqb, List, [], ◌∷◌, ◌++◌, ◌⊎◌, length, map, get_or}
-use Rattle.std.proofs.Common.{sum_by, All, Some, unwrap_or, refl, sym, ◌∙◌, ap, ap₂, subst, arith, inl, inr, append_assoc, append-nil}
-use Rattle.std.proofs.{lemmas.Bool.ne_eqb, lemmas.List.Sums.get_or-le-sum_by, lemmas.Option.{get_or_from_slice_get, same_Some}}
-use Rattle.std.proofs.lemmas.Option.{slice_get_within}
+use Rattle.std.proofs.Common.{◌≡◌, ℕ, zero, suc, ◌+◌, ◌^◌, ◌<◌, ◌≤◌, Bool, true, false, eqb, List, [], ◌∷◌, ◌++◌, ◌⊎◌, length, map}
+use Rattle.std.proofs.Common.{get_or, sum_by, All, Some, unwrap_or, refl, sym, ◌∙◌, ap, ap₂, subst, arith, inl, inr, append_assoc}
+use Rattle.std.proofs.{Common.append-nil, lemmas.Bool.ne_eqb, lemmas.List.Sums.get_or-le-sum_by}
+use Rattle.std.proofs.lemmas.Option.{get_or_from_slice_get, same_Some, slice_get_within}
 use Rattle.std.specs.{Bool.⊤, List.{AllByRecursion, AllZip, range_with_len, slice_get}, List.Sorted.IsNonDecreasingBy}
 use Rattle.bridge_io.specs.{declared.media.Kind.Kind, declared.media.Kind.TheVariants.{Video, Audio, Text}}
-use Rattle.hls_master.specs.{Addresses.address_value, Renditions.{RenditionValue, kind_of_type, same_rendition_set}, Tracks.Mentioned}
-use Rattle.hls_master.specs.Tracks.{by_rendition, by_variant, address_of, kind_of, same_set, variant_kind}
-use Rattle.hls_writer.specs.{Attributes.{group_bytes, playlist_name, type_name}, Renditions.{keys_of, language_at, own_rendition}}
-use Rattle.hls_writer.specs.Renditions.{places_from, places_of, text_from}
-use Rattle.presentation.specs.{declared.track.Track.Track, Groups.{groups_of, is_audio}, Rows.is_of}
+use Rattle.hls_master.specs.{Addresses.address_value, Renditions.{RenditionValue, kind_of_type, same_rendition_set}}
+use Rattle.hls_master.specs.Tracks.{Mentioned, by_rendition, by_variant, address_of, kind_of, same_set, variant_kind}
+use Rattle.hls_writer.specs.Attributes.{group_bytes, playlist_name, type_name}
+use Rattle.hls_writer.specs.Renditions.{keys_of, language_at, own_rendition, places_from, places_of, text_from}
+use Rattle.presentation.specs.{declared.track.Track.Track, Groups.{groups_of, is_audio}, Order.is_of}
 use Rattle.laws_of_playlists.specs.{Master.{heads_from, told_language}, Tracks.HaveOneLanguage}
-use Rattle.laws_of_playlists.proofs.{MasterTypes.{AudioTrack, Rendition, RenditionGroup, text_group}, MasterFirsts.{IsVideo, IsVideoAt}}
-use Rattle.laws_of_playlists.proofs.{MasterFirsts.Stand, MasterLists.all_weaker, MasterNames.{by_number, named, same_test}}
+use Rattle.laws_of_playlists.proofs.MasterTypes.{AudioTrack, Rendition, RenditionGroup, text_group}
+use Rattle.laws_of_playlists.proofs.{MasterFirsts.{IsVideo, IsVideoAt, Stand}, MasterLists.all_weaker}
+use Rattle.laws_of_playlists.proofs.MasterNames.{by_number, named, same_test}
 use Rattle.laws_of_playlists.proofs.{MasterNumbers.{number_few, number_is, number_of, set_told, sets_of}, MasterPlaces.Follow}
 use Rattle.laws_of_playlists.proofs.MasterSets.{AreGood, kinds_are_same, language_of, mention_head}
 

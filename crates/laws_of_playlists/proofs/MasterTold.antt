@@ -2,28 +2,31 @@
 use Rattle.std.proofs.Common.{◌≡◌, ℕ, zero, suc, ◌+◌, ◌^◌, ◌<◌, ◌≤◌, Bool, true, false, cond, List, [], ◌∷◌, ◌++◌, length, map, flat_map}
 use Rattle.std.proofs.Common.{filter, All, Option, Some, None, option_map, IfSome, refl, sym, ◌∙◌, ap, subst, arith, append_assoc}
 use Rattle.std.proofs.{Common.{append-nil, length-append}, lemmas.Bool.true≢false, lemmas.List.map-append}
-use Rattle.std.proofs.{lemmas.List.Elements.{filter-append, filter_passes, recursion_from_All}, lemmas.Option.get_or_from_slice_get}
-use Rattle.std.proofs.lemmas.Option.{same_Some, slice_get_within}
+use Rattle.std.proofs.lemmas.List.Elements.{filter-append, filter_passes, recursion_from_All}
+use Rattle.std.proofs.lemmas.Option.{get_or_from_slice_get, same_Some, slice_get_within}
 use Rattle.std.specs.List.{AllByRecursion, AllZip, range_with_len, slice_get}
 use Rattle.bridge_io.specs.{declared.media.Kind.Kind, declared.media.Kind.TheVariants.{Video, Audio, Text}}
 use Rattle.url_parts.specs.Addresses.{folder_of}
-use Rattle.hls_master.specs.{Renditions.same_kind, Tracks.{Mentioned, by_rendition, by_variant, address_of, by_kind, firsts_behind}}
-use Rattle.hls_master.specs.{Tracks.{firsts_of, has_kind, kind_of, tracks_among, tracks_of}, Variants.VariantValue}
-use Rattle.hls_writer.specs.{Attributes.{codes_bytes, playlist_name}, Renditions.{filled_renditions, keys_of, own_rendition}}
-use Rattle.hls_writer.specs.{Renditions.{own_renditions, places_of, renditions_of, text_from}, Variants.{cast_of, choices, codes_of}}
-use Rattle.hls_writer.specs.Variants.{members_of, numbers_from, sound_variants, variants_of, variants_with, video_variant}
-use Rattle.laws_of_playlists.proofs.{MasterTypes.Variant, MasterCodes.video_is_told, MasterFirsts.{AreFree, IsVideoAt, IsWithin, Stand}}
-use Rattle.laws_of_playlists.proofs.{MasterFirsts.{all_firsts, first_videos, free_before, nothing_new, seen_then}, MasterLists.all_append}
-use Rattle.laws_of_playlists.proofs.{MasterLists.{all_map, all_of, all_weaker}, MasterNumbers.{IsAudio, IsSound, filled_audio}}
-use Rattle.laws_of_playlists.proofs.{MasterNumbers.{groups_audio, sounds_audio}, MasterOrder.{AreInOrder, AreOf, AreShown, Good}}
-use Rattle.laws_of_playlists.proofs.MasterOrder.{address_at, audio_mention, audio_places, audios_in_order, audios_shown, most, of_kind}
-use Rattle.laws_of_playlists.proofs.MasterOrder.{order_weaker, rising, seen, same_sets, shown_append, shown_heads, shown_kinds}
-use Rattle.laws_of_playlists.proofs.MasterOrder.{shown_length, shown_stand, text_mention, text_places, text_renditions, texts_are}
-use Rattle.laws_of_playlists.proofs.MasterOrder.{texts_in_order, texts_shown, video_places, videos_in_order, videos_shown}
-use Rattle.laws_of_playlists.proofs.{MasterPlaces.{Follow, follow}, MasterSets.{mention_head, told_in_order}}
-use Rattle.presentation.specs.{declared.track.Track.Track, Groups.{groups_of, is_audio}, Rows.is_of}
-use Rattle.laws_of_playlists.specs.{Master.{head_of, heads_from}, Tracks.{AreOwnCodes, AreWritable, HaveOneLanguage, IsTold}}
-use Rattle.laws_of_playlists.specs.Tracks.{tracks_of_kind}
+use Rattle.hls_master.specs.Renditions.{same_kind}
+use Rattle.hls_master.specs.Tracks.{Mentioned, by_rendition, by_variant, address_of, by_kind, firsts_behind, firsts_of, has_kind, kind_of}
+use Rattle.hls_master.specs.{Tracks.{tracks_among, tracks_of}, Variants.VariantValue}
+use Rattle.hls_writer.specs.Attributes.{codes_bytes, playlist_name}
+use Rattle.hls_writer.specs.Renditions.{filled_renditions, keys_of, own_rendition, own_renditions, places_of, renditions_of, text_from}
+use Rattle.hls_writer.specs.Variants.{cast_of, choices, codes_of, members_of, numbers_from, sound_variants, variants_of, variants_with}
+use Rattle.hls_writer.specs.Variants.{video_variant}
+use Rattle.laws_of_playlists.proofs.{MasterTypes.Variant, MasterCodes.video_is_told}
+use Rattle.laws_of_playlists.proofs.MasterFirsts.{AreFree, IsVideoAt, IsWithin, Stand, all_firsts, first_videos, free_before, nothing_new}
+use Rattle.laws_of_playlists.proofs.{MasterFirsts.seen_then, MasterLists.{all_append, all_map, all_of, all_weaker}}
+use Rattle.laws_of_playlists.proofs.MasterNumbers.{IsAudio, IsSound, filled_audio, groups_audio, sounds_audio}
+use Rattle.laws_of_playlists.proofs.MasterOrder.{AreInOrder, AreOf, AreShown, Good, address_at, audio_mention, audio_places}
+use Rattle.laws_of_playlists.proofs.MasterOrder.{audios_in_order, audios_shown, most, of_kind, order_weaker, rising, seen, same_sets}
+use Rattle.laws_of_playlists.proofs.MasterOrder.{shown_append, shown_heads, shown_kinds, shown_length, shown_stand, text_mention}
+use Rattle.laws_of_playlists.proofs.MasterOrder.{text_places, text_renditions, texts_are, texts_in_order, texts_shown, video_places}
+use Rattle.laws_of_playlists.proofs.{MasterOrder.{videos_in_order, videos_shown}, MasterPlaces.{Follow, follow}}
+use Rattle.laws_of_playlists.proofs.MasterSets.{mention_head, told_in_order}
+use Rattle.presentation.specs.{declared.track.Track.Track, Groups.{groups_of, is_audio}, Order.is_of}
+use Rattle.laws_of_playlists.specs.Master.{head_of, heads_from}
+use Rattle.laws_of_playlists.specs.Tracks.{AreOwnCodes, AreWritable, HaveOneLanguage, IsTold, tracks_of_kind}
 
 map_twice : {X Y Z : Type 0} (f : Y → Z) (g : X → Y) (xs : List X) → map f (map g xs) ≡ map (λ x. f (g x)) xs
 map_twice f g [] = refl

@@ -1,15 +1,17 @@
 -- Codes that are joined by `,` are the same codes again.
 use Rattle.std.proofs.Common.{◌≡◌, ℕ, ◌+◌, ◌-◌, ◌<◌, ◌==◌, Bool, true, false, List, [], ◌∷◌, All, length, map, get_or, reverse, refl, sym}
-use Rattle.std.proofs.{Common.{◌∙◌, ap, inl, inr, arith}, lemmas.Bool.{and_parts, cases_Bool}, lemmas.List.{append-nil, get_or-drop}}
-use Rattle.std.proofs.lemmas.List.{get_or-reverse, get_or-take, length-drop, length-map, length-reverse, length-take, take_all}
+use Rattle.std.proofs.{Common.{◌∙◌, ap, inl, inr, arith}, lemmas.Bool.{and_parts, cases_Bool}}
+use Rattle.std.proofs.lemmas.List.{append-nil, get_or-drop, get_or-reverse, get_or-take, length-drop, length-map, length-reverse}
+use Rattle.std.proofs.lemmas.List.{length-take, take_all}
 use Rattle.std.proofs.lemmas.List.Elements.{All-append, All-cons, All-drop, All-head, All-map, All-nil, All-tail, All-take, All-weaker}
-use Rattle.std.proofs.{lemmas.List.Splits.{length-slice_split, slice_split_at, slice_split_none}, lemmas.List.Sums.AllPass-from_list_all}
-use Rattle.std.proofs.lemmas.List.Sums.{list_all-from_AllPass, prefix_len_is, prefix_len_stops, suffix_len-le-length, suffix_len_is}
+use Rattle.std.proofs.lemmas.List.Splits.{length-slice_split, slice_split_at, slice_split_none}
+use Rattle.std.proofs.lemmas.List.Sums.{AllPass-from_list_all, list_all-from_AllPass, prefix_len_is, prefix_len_stops}
+use Rattle.std.proofs.lemmas.List.Sums.{suffix_len-le-length, suffix_len_is}
 use Rattle.std.specs.{Prelude.flat_map, List.{list_all, onto_first, prefix_len, suffix_len, slice_split}}
 use Rattle.bridge_io.specs.declared.media.Kind.{Kind}
-use Rattle.mpd_values.specs.{declared.blank.Blank.Blank, declared.blank.Blank.TheVariants.Space, Blanks.{is_blank, trimmed, without_end}}
-use Rattle.mpd_values.specs.{Blanks.without_front, Codecs.{codes_of, is_code, is_code_char}}
-use Rattle.presentation.specs.Rows.{joined_codes, with_commas}
+use Rattle.mpd_values.specs.{declared.blank.Blank.Blank, declared.blank.Blank.TheVariants.Space}
+use Rattle.mpd_values.specs.{Blanks.{is_blank, trimmed, without_end, without_front}, Codecs.{codes_of, is_code, is_code_char}}
+use Rattle.mpd_presentation.specs.Rows.{joined_codes, with_commas}
 use Rattle.laws_of_playlists.specs.Tracks.{AreOwnCodes}
 
 -- ---- nothing is dropped twice

@@ -4,13 +4,13 @@ use Rattle.std.proofs.{Common.{IfSome, refl, arith}, lemmas.List.Elements.{All-c
 use Rattle.std.specs.Prelude.{flat_map, if◌then◌else◌, is_none}
 use Rattle.bridge_io.specs.declared.place.Place.{Place}
 use Rattle.url_parts.specs.declared.range.Range.{Range}
-use Rattle.mpd_text.specs.Trees.{Element}
+use Rattle.mpd_tree.specs.Trees.{Element}
 use Rattle.mpd_profile.specs.{declared.fault.RuleFault.RuleFault, declared.fault.RuleFault.TheVariants.Missing}
 use Rattle.mpd_profile.specs.declared.listed.Addressing.TheVariants.{Index}
-use Rattle.mpd_levels.specs.{declared.indexed.IndexRow.IndexRow, declared.initialization.Initialization.Initialization, Indexed.index_of}
-use Rattle.mpd_levels.specs.Indexed.{lacks_by}
-use Rattle.mpd_rules.specs.{declared.rows.TrackRow.TrackRow, Kept.{Path, levels_of, paths_of, periods_of}, Rules.index_refused}
-use Rattle.mpd_rules.specs.{Rules.{paths_told, refused_at, second_told}, Typed.track_of}
+use Rattle.mpd_levels.specs.{declared.indexed.IndexRow.IndexRow, declared.initialization.Initialization.Initialization}
+use Rattle.mpd_levels.specs.Indexed.{index_of, lacks_by}
+use Rattle.mpd_rules.specs.{declared.rows.TrackRow.TrackRow, Kept.{Path, levels_of, paths_of, periods_of}}
+use Rattle.mpd_rules.specs.{Rules.{index_refused, paths_told, refused_at, second_told}, Typed.track_of}
 use Rattle.mpd_rules.proofs.Ranges.{HasBytes, index_bytes}
 use Rattle.presentation.proofs.Reached.{none_first, none_later}
 use Rattle.laws_of_playlists.specs.Origins.{HasIndex, IndexesAreTold, IsSomeBytes}

@@ -2,23 +2,25 @@
 use Rattle.mpd_rules.specs.Rules as rules
 use Rattle.std.proofs.Common.{◌≡◌, ℕ, suc, ◌+◌, ◌&&◌, not, Bool, true, false, List, [], ◌∷◌, ◌++◌, All, map, flat_map, slice_get, Option}
 use Rattle.std.proofs.{Common.{Some, Ok, refl, sym, ◌∙◌, ap, subst, inl, inr, arith}, lemmas.Bool.cases_Bool}
-use Rattle.std.proofs.{lemmas.List.Concat.flat_map-append, lemmas.List.Elements.{All-append, All-cons, All-head, All-map, All-nil}}
-use Rattle.std.proofs.lemmas.List.Elements.{All-tail}
+use Rattle.std.proofs.lemmas.List.Concat.{flat_map-append}
+use Rattle.std.proofs.lemmas.List.Elements.{All-append, All-cons, All-head, All-map, All-nil, All-tail}
 use Rattle.std.specs.Prelude.{codes, filter, if◌then◌else◌}
 use Rattle.bridge_io.proofs.Texts.{same_bytes}
 use Rattle.bridge_io.specs.declared.place.Place.{Place}
-use Rattle.mpd_text.specs.{Trees.{Head, Forest, nothing, element, Element}, Views.side_by_side}
+use Rattle.mpd_tree.specs.{Trees.{Head, Forest, nothing, element, Element}, Views.side_by_side}
 use Rattle.mpd_profile.specs.{declared.fault.RuleFault.RuleFault, declared.listed.Addressing.Addressing}
 use Rattle.mpd_profile.specs.{declared.listed.Addressing.TheVariants.{Index, Segments as OneByOne}, declared.listed.Listed.Listed}
 use Rattle.mpd_profile.specs.{declared.listed.Listed.TheVariants.{Mpd, Period, AdaptationSet, Representation}, Elements.child_of}
-use Rattle.mpd_profile.specs.{Features.features_at, Heads.{is_dynamic, is_named}, LeftOut.is_left_out, Refusals.feature_refusals}
-use Rattle.mpd_profile.specs.{Refusals.{refusals_of, root_refusals, value_refusals}, Sound.{IsSound, IsSoundAs, IsSoundChild, parent_of}}
+use Rattle.mpd_profile.specs.{Features.features_at, Heads.{is_dynamic, is_named}, LeftOut.is_left_out}
+use Rattle.mpd_profile.specs.Refusals.{feature_refusals, refusals_of, root_refusals, value_refusals}
+use Rattle.mpd_profile.specs.Sound.{IsSound, IsSoundAs, IsSoundChild, parent_of}
 use Rattle.mpd_profile.specs.Visits.{Parent, Visit, inside, parent_in, root_parent, root_visit, visits_in}
 use Rattle.mpd_profile.proofs.Sound.{sound_children, sound_root}
 use Rattle.mpd_levels.specs.{declared.indexed.IndexRow.IndexRow, Indexed.index_of, Segments.{Segments, segments_of}}
 use Rattle.mpd_rules.specs.Kept.{Path, is_kept, kept_children, path_in, paths_in, paths_of, periods_of, representations_of, sets_of}
-use Rattle.mpd_rules.specs.{Periods.period_refusals, Rules.{all_index_refusals, all_refusals, dash_values, index_refused, index_values}}
-use Rattle.mpd_rules.specs.Rules.{indexed_mpd_of, refusals_behind, segments_refused, silence_in, typed_mpd_of, unless_refused}
+use Rattle.mpd_rules.specs.Periods.{period_refusals}
+use Rattle.mpd_rules.specs.Rules.{all_index_refusals, all_refusals, dash_values, index_refused, index_values, indexed_mpd_of}
+use Rattle.mpd_rules.specs.Rules.{refusals_behind, segments_refused, silence_in, typed_mpd_of, unless_refused}
 use Rattle.mpd_rules.specs.Typed.{TypedMpd, values_with}
 use Rattle.mpd_rules.proofs.Refusing.{none_told}
 use Rattle.presentation.proofs.Reached.{none_first, none_later}

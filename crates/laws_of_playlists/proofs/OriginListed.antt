@@ -1,9 +1,9 @@
 -- The listed segments of an MPD.
 use Rattle.std.proofs.{Common.{Option, None, Some, IfSome, [], arith}, lemmas.Option.IfSome_then}
 use Rattle.std.specs.Option.{option_map_or}
-use Rattle.presentation.proofs.Pace.{in_pace}
-use Rattle.presentation.specs.{PresentedLaws.IsInPace, declared.parts.Content.Content, Presented.{IsEnded, content_at, listed_in}}
-use Rattle.presentation.specs.Presented.{window_of}
+use Rattle.mpd_presentation.proofs.Pace.{in_pace}
+use Rattle.presentation.specs.{declared.parts.Content.Content, Presented.{IsEnded, content_at, listed_in, window_of}}
+use Rattle.mpd_presentation.specs.PresentedLaws.{IsInPace}
 use Rattle.timeline.specs.{declared.window.Window.Window, Listed.IsReached, OpenEnds.{DurationsEnd, EndedIsReached, TimelinesEnd}}
 use Rattle.laws_of_playlists.specs.Origins.{AreInPace, StaticAreInPace, of_static}
 use Rattle.laws_of_playlists.proofs.OriginParts.{IsContentWell, at_place, contents_ended, contents_well}

@@ -1,10 +1,10 @@
 -- The order of kinds, and places that don't fall.
 use Rattle.std.proofs.Common.{◌≡◌, ℕ, zero, suc, ◌≤◌, Bool, true, false, List, [], ◌∷◌, ◌++◌, All, map, filter, refl, ◌∙◌, ap, inl, inr}
-use Rattle.std.proofs.{Common.arith, lemmas.Bool.cases_Bool, lemmas.List.{append-nil, map-append}, lemmas.List.Elements.All-append}
-use Rattle.std.proofs.lemmas.List.Elements.{All-map, All-head, All-tail, filter-append}
+use Rattle.std.proofs.{Common.arith, lemmas.Bool.cases_Bool, lemmas.List.{append-nil, map-append}}
+use Rattle.std.proofs.lemmas.List.Elements.{All-append, All-map, All-head, All-tail, filter-append}
 use Rattle.std.specs.List.Sorted.{IsNonDecreasingBy}
 use Rattle.bridge_io.specs.{declared.media.Kind.Kind, declared.media.Kind.TheVariants.{Video, Audio, Text}}
-use Rattle.presentation.specs.Rows.{by_kind, is_of}
+use Rattle.presentation.specs.Order.{by_kind, is_of}
 
 -- ---- kinds
 

@@ -6,50 +6,54 @@ use Rattle.mpd_levels.specs.declared.level.Means.TheVariants as means
 use Rattle.mpd_rules.specs.Typed as typed
 use Rattle.std.proofs.Common.{◌≡◌, ℕ, zero, suc, ◌-◌, ◌<◌, ◌==◌, ◌%◌, ◌/◌, Bool, true, false, List, [], ◌∷◌, ◌++◌, All, length, map}
 use Rattle.std.proofs.Common.{slice_get, Option, Some, None, Result, Ok, Err, IfSome, nat_lt, refl, sym, ◌∙◌, ap, subst, inl, inr, arith}
-use Rattle.std.proofs.{lemmas.Bool.cases_Bool, lemmas.Bool.Decides.nat_tests, lemmas.List.Elements.{All-append, All-cons, All-filter}}
-use Rattle.std.proofs.lemmas.List.Elements.{All-head, All-map, All-nil, All-replicate, All-tail, All-weaker}
-use Rattle.std.proofs.lemmas.List.Sums.{AllPass-from_list_all}
+use Rattle.std.proofs.{lemmas.Bool.cases_Bool, lemmas.Bool.Decides.nat_tests}
+use Rattle.std.proofs.lemmas.List.Elements.{All-append, All-cons, All-filter, All-head, All-map, All-nil, All-replicate, All-tail}
+use Rattle.std.proofs.{lemmas.List.Elements.All-weaker, lemmas.List.Sums.AllPass-from_list_all}
 use Rattle.std.specs.Prelude.{bytes_eq, codes, decimal, find, option_and_then, option_map, unwrap_or, not, if◌then◌else◌}
 use Rattle.std.specs.{List.{cons_option, list_all}, Fmt.{digit_glyph, digits, digits_onto}}
 use Rattle.url.specs.{Parser.{Parsed, parse_url, split_scheme}, Input.{split_once, strip_tabs_and_new_lines, trim_c0_control_and_space}}
 use Rattle.url.specs.{Scheme.scheme_len, Parts.Parts}
 use Rattle.bridge_io.proofs.AndThen.{steps_of}
-use Rattle.bridge_io.specs.Answer.{and_then}
+use Rattle.bridge_io.specs.Answer.{and_then, gathered, told_as}
 use Rattle.url_parts.specs.{declared.fault.UrlFault.UrlFault, declared.fault.UrlFault.TheVariants.{Refused, Scheme, TooLong}}
-use Rattle.url_parts.specs.{declared.address.Part.Part, declared.range.Range.Range, Addresses.{IsAddress, is_absolute, url_of as url_at}}
-use Rattle.url_parts.specs.Addresses.{absolute, accepted, accepted_url, chain, is_address_byte, is_web, resolve, resolve_more, text_of}
+use Rattle.url_parts.specs.{declared.address.Part.Part, declared.range.Range.Range}
+use Rattle.url_parts.specs.Addresses.{IsAddress, is_absolute, url_of as url_at, absolute, accepted, accepted_url, chain, is_address_byte}
+use Rattle.url_parts.specs.Addresses.{is_web, resolve, resolve_more, text_of}
 use Rattle.url_parts.proofs.Parsed.{resolved_is_address}
 use Rattle.template_ids.specs.{declared.fault.TemplateFault.TemplateFault, declared.identifier.Identifier.Identifier}
 use Rattle.template_ids.specs.{declared.identifier.Identifier.TheVariants.{Dollar, Padded, RepresentationId}, declared.ids.Ids.Ids}
-use Rattle.template_ids.specs.{Identifiers.identifier_of, Templates.{is_dollar, named, parts_of, quantity, replaced, template_fault}}
-use Rattle.template_ids.specs.Templates.{template_of, value_if_ok, value_of}
-use Rattle.timeline.specs.{declared.entry.End.End, declared.entry.SEntry.SEntry, declared.names.Names.Names, declared.names.RefPart.RefPart}
-use Rattle.timeline.specs.{Expansions.SegmentTimeline, Listed.media_time, Names.{listed_part, part_at, part_of, referred}}
-use Rattle.timeline.specs.OpenEnds.{DurationsEnd, TimelinesEnd}
+use Rattle.template_ids.specs.Identifiers.{identifier_of}
+use Rattle.template_ids.specs.Templates.{is_dollar, named, parts_of, quantity, replaced, template_fault, template_of, value_if_ok}
+use Rattle.template_ids.specs.Templates.{value_of}
+use Rattle.timeline.specs.{declared.entry.End.End, declared.names.Names.Names, Expansions.SegmentTimeline, Listed.media_time}
+use Rattle.timeline.specs.{Names.{listed_part, part_at, part_of, referred}, OpenEnds.{DurationsEnd, TimelinesEnd}}
+use Rattle.mpd_entries.specs.{declared.entry.SEntry.SEntry, declared.ref_part.RefPart.RefPart}
 use Rattle.timeline.proofs.OpenEnds.{no_fault}
 use Rattle.mpd_values.specs.{declared.blank.Blank.TheVariants.SpaceOrLineEnd, Blanks.trimmed}
-use Rattle.mpd_text.specs.{Trees.{Attribute, Element, Forest, Head, element, nothing}, Views.{attribute_named, side_by_side}}
-use Rattle.mpd_profile.specs.{declared.listed.Addressing.TheVariants.Segments as OneByOne, declared.listed.Listed.Listed, Heads.is_named}
-use Rattle.mpd_profile.specs.Heads.{value_named}
-use Rattle.mpd_levels.specs.{declared.initialization.Initialization.Initialization, declared.level.Means.Means, Levels.elements_used}
-use Rattle.mpd_levels.specs.{Levels.{first_some, list_name, template_name, used}, Readings.{child_named, children_named}, Segments.Segments}
-use Rattle.mpd_levels.specs.Segments.{attributes_by, if_any, initialization_in, initialization_of, of_list, of_template, segments_by}
-use Rattle.mpd_levels.specs.Segments.{segments_of, told, unless_there, url_of, urls_by, urls_in, values_in}
-use Rattle.mpd_rules.specs.{declared.rows.Description.Description, Kept.{Path, is_kept, kept_children, levels_of, path_in, paths_of}}
-use Rattle.mpd_rules.specs.{Kept.{periods_of, representations_of, sets_of}, Readings.{base_in, base_reference}, Typed.bases_below}
-use Rattle.mpd_rules.specs.Typed.{common_at, description_in}
+use Rattle.mpd_tree.specs.{Trees.{Attribute, Element, Forest, Head, element, nothing}, Views.{attribute_named, side_by_side}}
+use Rattle.mpd_profile.specs.{declared.listed.Addressing.TheVariants.Segments as OneByOne, declared.listed.Listed.Listed}
+use Rattle.mpd_profile.specs.Heads.{is_named, value_named}
+use Rattle.mpd_levels.specs.{declared.initialization.Initialization.Initialization, declared.level.Means.Means}
+use Rattle.mpd_levels.specs.{Levels.{elements_used, first_some, list_name, template_name, used}, Readings.{child_named, children_named}}
+use Rattle.mpd_levels.specs.Segments.{Segments, attributes_by, if_any, initialization_in, initialization_of, of_list, of_template}
+use Rattle.mpd_levels.specs.Segments.{segments_by, segments_of, told, unless_there, url_of, urls_by, urls_in, values_in}
+use Rattle.mpd_rules.specs.declared.rows.Description.{Description}
+use Rattle.mpd_rules.specs.Kept.{Path, is_kept, kept_children, levels_of, path_in, paths_of, periods_of, representations_of, sets_of}
+use Rattle.mpd_rules.specs.{Readings.{base_in, base_reference}, Typed.{bases_below, common_at, description_in}}
 use Rattle.mpd_rules.proofs.Ranges.{named_some}
 use Rattle.presentation.specs.{declared.fault.PresentationFault.PresentationFault, declared.parts.Content.Content}
-use Rattle.presentation.specs.{Origins.CameFromStaticMpd, Presented.{IsEnded, Presented}, Rows.{Period, Row}, Scales.scale_of}
-use Rattle.presentation.specs.Told.{all_told, at_url, base_of, content_of, end_of, gathered, init_of, init_reference, init_template_of}
-use Rattle.presentation.specs.Told.{initialization_of as initialization_told, media_of, names_of, one_told, part_with, period_told, runs_of}
-use Rattle.presentation.specs.Told.{segments_in, some_init, timeline_by, told_as, told_in_order, told_of, unless_segments, untold}
-use Rattle.presentation.proofs.{Ending.all_ended, Filling.{all_in_order, ok_under}, Pace.{IsSound, duration_sound, entries_sound}}
+use Rattle.presentation.specs.{Presented.{IsEnded, Presented}, Meanings.part_with}
+use Rattle.mpd_presentation.specs.{Origins.CameFromStaticMpd, Rows.{Period, Row}, Scales.scale_of}
+use Rattle.mpd_presentation.specs.Told.{all_told, at_url, base_of, content_of, end_of, init_of, init_reference, init_template_of}
+use Rattle.mpd_presentation.specs.Told.{initialization_of as initialization_told, media_of, names_of, one_told, period_told, runs_of}
+use Rattle.mpd_presentation.specs.Told.{segments_in, some_init, timeline_by, told_in_order, told_of, unless_segments, untold}
+use Rattle.presentation.proofs.Filling.{all_in_order, ok_under}
+use Rattle.mpd_presentation.proofs.{Ending.all_ended, Pace.{IsSound, duration_sound, entries_sound}}
 use Rattle.laws_of_playlists.specs.Origins.{AreLocated, AreOfBytes, CameFromMpd, IsByte, IsElementOfBytes, IsFound, IsHeadOfBytes}
 use Rattle.laws_of_playlists.specs.Origins.{IsLocated, IsOfBytes, IsSomeBytes, InitializationsAreLocated, OwnTextsAreAddresses}
 use Rattle.laws_of_playlists.specs.Origins.{PartsAreLocated, of_static}
-use Rattle.laws_of_playlists.proofs.{OriginCodes.{All-trimmed, parts_hold}, OriginKept.{clean, paths_hold}, OriginTracks.{Told, each_row}}
-use Rattle.laws_of_playlists.proofs.OriginTracks.{of_mpd, or_there}
+use Rattle.laws_of_playlists.proofs.{OriginCodes.{All-trimmed, parts_hold}, OriginKept.{clean, paths_hold}}
+use Rattle.laws_of_playlists.proofs.OriginTracks.{Told, each_row, of_mpd, or_there}
 
 -- ---- the text of an address
 

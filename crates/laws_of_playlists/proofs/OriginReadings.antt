@@ -1,23 +1,23 @@
 -- What is read of bytes is of bytes.
+use Rattle.mpd_tree.specs.Pieces as pieces
+use Rattle.mpd_tree.specs.Grammar as grammar
 use Rattle.std.proofs.Common.{◌≡◌, ℕ, zero, suc, ◌<◌, Bool, true, false, List, [], ◌∷◌, ◌++◌, length, take, drop, All, Some, None, sym}
-use Rattle.std.proofs.Common.{refl, inl, inr, subst}
-use Rattle.std.proofs.{Common.{arith, nat_lt}, lemmas.Bool.{cases_Bool, cond_both, Decides.nat_tests}, lemmas.List.drop_at}
-use Rattle.std.proofs.lemmas.List.{Sums.AllPass-from_list_all, Elements.{All-append, All-cons, All-drop, All-nil, All-tail, All-take}}
+use Rattle.std.proofs.{Common.{refl, inl, inr, subst, arith, nat_lt}, lemmas.Bool.{cases_Bool, cond_both}, lemmas.Bool.Decides.nat_tests}
+use Rattle.std.proofs.{lemmas.List.drop_at, lemmas.List.Sums.AllPass-from_list_all}
+use Rattle.std.proofs.lemmas.List.Elements.{All-append, All-cons, All-drop, All-nil, All-tail, All-take}
 use Rattle.std.specs.{Prelude.{◌==◌, ◌&&◌, ◌||◌, codes, if◌then◌else◌, bytes_eq, nat_eq}, Char.encode_utf8, List.{list_all, starts_with}}
 use Rattle.byte_scan.specs.ByteSet.{is_member}
 use Rattle.bridge_io.specs.Texts.{is_among}
-use Rattle.mpd_text.specs.{Characters.{is_white, is_digit, starts_name}, Faults.ReadsAs, Meaning.{IsOneReading, reading_of}}
-use Rattle.mpd_text.specs.References.{is_hex_digit, named_by_digits, named_by_number, referred_to}
-use Rattle.mpd_text.specs.Runs.{up_to, is_black, ends_name, name_at, after_white, after_line_feed, after_mark, mark, common, begins}
-use Rattle.mpd_text.specs.{Marked.{marked_in_content, marked_in_value}, Trees.{names_of, Attribute, Head, Forest, nothing, element}}
-use Rattle.mpd_text.specs.{Positions.{Kind, Position}, Pieces.{Piece, tag_piece, Inside, nothing_inside, followed_by, with_child}}
-use Rattle.mpd_text.specs.{Productions.{Production, just, refused, first, choose, ◌>>◌, as_read, times, many}, Grammar.{greater_than, word}}
-use Rattle.mpd_text.specs.Grammar.{behind_dashes, behind_two, second_dash, comment, declared, declaration, reference}
-use Rattle.mpd_text.specs.Grammar.{line_end, marked, part, closed, value, new_name, equals, quote_mark, attribute, behind_white, misc}
-use Rattle.mpd_text.specs.Grammar.{next_attribute, tag_end, tag, end_name, end_tag, piece, added, next_inside, inside, root, document}
-use Rattle.mpd_text.specs.Grammar.{behind_root_start, beginning, next_comment, Spells}
-use Rattle.mpd_text.specs.Pieces as pieces
-use Rattle.mpd_text.specs.Grammar as grammar
+use Rattle.mpd_tree.specs.{Characters.{is_white, is_digit, starts_name}, Faults.ReadsAs, Meaning.{IsOneReading, reading_of}}
+use Rattle.mpd_tree.specs.References.{is_hex_digit, named_by_digits, named_by_number, referred_to}
+use Rattle.mpd_tree.specs.Runs.{up_to, is_black, ends_name, name_at, after_white, after_line_feed, after_mark, mark, common, begins}
+use Rattle.mpd_tree.specs.{Marked.{marked_in_content, marked_in_value}, Trees.{names_of, Attribute, Head, Forest, nothing, element}}
+use Rattle.mpd_tree.specs.{Positions.{Kind, Position}, Pieces.{Piece, tag_piece, Inside, nothing_inside, followed_by, with_child}}
+use Rattle.mpd_tree.specs.Productions.{Production, just, refused, first, choose, ◌>>◌, as_read, times, many}
+use Rattle.mpd_tree.specs.Grammar.{greater_than, word, behind_dashes, behind_two, second_dash, comment, declared, declaration, reference}
+use Rattle.mpd_tree.specs.Grammar.{line_end, marked, part, closed, value, new_name, equals, quote_mark, attribute, behind_white, misc}
+use Rattle.mpd_tree.specs.Grammar.{next_attribute, tag_end, tag, end_name, end_tag, piece, added, next_inside, inside, root, document}
+use Rattle.mpd_tree.specs.Grammar.{behind_root_start, beginning, next_comment, Spells}
 use Rattle.laws_of_playlists.specs.Origins.{AreOfBytes, IsByte, IsElementOfBytes, IsHeadOfBytes, IsOfBytes, ReadingsAreOfBytes}
 use Rattle.mpd_rules.proofs.Ranges.{below_bound}
 

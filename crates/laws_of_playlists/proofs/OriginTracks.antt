@@ -9,27 +9,30 @@ use Rattle.std.specs.{Prelude.{codes, is_none, is_some, option_map, unwrap_or, i
 use Rattle.bridge_io.proofs.AndThen.{steps_of}
 use Rattle.bridge_io.specs.{declared.media.Kind.Kind, declared.media.Kind.TheVariants.Video, declared.place.Place.Place}
 use Rattle.mpd_values.specs.{Codecs.{are_codes, are_read_codes, has_foreign_code}, Languages.is_language, MediaTypes.kind_of}
-use Rattle.mpd_text.specs.Trees.{Element, Head}
+use Rattle.mpd_tree.specs.Trees.{Element, Head}
 use Rattle.mpd_profile.specs.{declared.fault.RuleFault.RuleFault, declared.fault.RuleFault.TheVariants.NoTracks}
 use Rattle.mpd_profile.specs.{declared.listed.Addressing.Addressing, declared.listed.Addressing.TheVariants.{Index, Segments as OneByOne}}
-use Rattle.mpd_profile.specs.{declared.listed.Listed.TheVariants.{AdaptationSet, Representation}, declared.value.Value.TheVariants.Codes}
-use Rattle.mpd_profile.specs.{declared.value.Value.TheVariants.Language, Features.{attributes_told, codes_feature, has_foreign, kind_named}}
-use Rattle.mpd_profile.specs.{Features.{parent_feature, told_at}, Heads.{has_child, is_dynamic, or_else, value_named, value_over}}
+use Rattle.mpd_profile.specs.declared.listed.Listed.TheVariants.{AdaptationSet, Representation}
+use Rattle.mpd_profile.specs.declared.value.Value.TheVariants.{Codes, Language}
+use Rattle.mpd_profile.specs.Features.{attributes_told, codes_feature, has_foreign, kind_named, parent_feature, told_at}
+use Rattle.mpd_profile.specs.Heads.{has_child, is_dynamic, or_else, value_named, value_over}
 use Rattle.mpd_profile.specs.{LeftOut.{is_other_type, is_representation_left_out, type_of}, Sound.parent_of, Visits.Parent, Values.is_value}
 use Rattle.mpd_profile.proofs.Sound.{neither}
 use Rattle.mpd_levels.specs.{Indexed.index_of, Segments.segments_of}
 use Rattle.mpd_rules.specs.{declared.rows.Description.Description, declared.rows.PeriodRow.PeriodRow, declared.rows.TrackRow.TrackRow}
-use Rattle.mpd_rules.specs.{Kept.{Path, path_in, paths_in, paths_of, periods_of, representations_of, sets_of}, Periods.bounds_from}
-use Rattle.mpd_rules.specs.{Periods.{end_said, first_start, start_of, timed_of, total_of}, Rules.{is_played, is_silent, silence_in}}
-use Rattle.mpd_rules.specs.{Rules.silence_told, Typed.{TypedMpd, common_at, description_in, kind_by, period_of, values_with}}
+use Rattle.mpd_rules.specs.Kept.{Path, path_in, paths_in, paths_of, periods_of, representations_of, sets_of}
+use Rattle.mpd_rules.specs.Periods.{bounds_from, end_said, first_start, start_of, timed_of, total_of}
+use Rattle.mpd_rules.specs.Rules.{is_played, is_silent, silence_in, silence_told}
+use Rattle.mpd_rules.specs.Typed.{TypedMpd, common_at, description_in, kind_by, period_of}
 use Rattle.presentation.specs.{Counting.unless_any, declared.fault.PresentationFault.TheVariants.Limit, declared.track.Track.Track}
-use Rattle.presentation.specs.{Presented.Presented, Rows.{Period, Row, by_kind, first_rows, in_order, is_of, joined_codes, section_of}}
-use Rattle.presentation.specs.{Rows.track_of, Told.{differ_told, needs_now, over_told, all_told, presented_if_told, presented_of}}
-use Rattle.presentation.specs.Told.{presented_with, told_before, told_in_order}
+use Rattle.presentation.specs.{Presented.Presented, Order.{by_kind, is_of}}
+use Rattle.mpd_presentation.specs.Rows.{Period, Row, first_rows, in_order, joined_codes, section_of, track_of}
+use Rattle.mpd_presentation.specs.Told.{differ_told, needs_now, over_told, all_told, presented_if_told, presented_of, presented_with}
+use Rattle.mpd_presentation.specs.Told.{told_before, told_in_order}
 use Rattle.presentation.proofs.{Firsts.none_before, Reached.{none_first, none_later}, Filling.{all_in_order, length_in_order}}
 use Rattle.laws_of_playlists.specs.Origins.{CameFromMpd, HaveFewTracks, HaveSections, HaveTracks, IndexedTracksAreWritable}
-use Rattle.laws_of_playlists.specs.{Origins.TracksAreWritable, Tracks.{AreOrdered, AreOwnCodes, AreWritable, AreWritableIfFew}}
-use Rattle.laws_of_playlists.specs.Tracks.{HaveOneLanguage, IsTold}
+use Rattle.laws_of_playlists.specs.Origins.{TracksAreWritable}
+use Rattle.laws_of_playlists.specs.Tracks.{AreOrdered, AreOwnCodes, AreWritable, AreWritableIfFew, HaveOneLanguage, IsTold}
 use Rattle.laws_of_playlists.proofs.{OriginCodes.joined_own, OriginKept.{IsClean, IsFinePath, IsPlaced, clean, clean_index, paths_placed}}
 use Rattle.laws_of_playlists.proofs.OriginOrder.{Rises, Rises-before, Rises-map, in_order_twice, kept_in_order, map_in_order}
 use Rattle.laws_of_playlists.proofs.OriginOrder.{non_decreasing}

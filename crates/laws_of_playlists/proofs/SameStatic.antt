@@ -1,15 +1,16 @@
 -- What came from a static MPD can be written and read again.
-use Rattle.std.proofs.{Common.{ℕ, ◌*◌, ◌^◌, ◌<◌, ◌≤◌, List, [], ◌∷◌, map, All, arith, div-lt_iff_lt-mul}, lemmas.List.Elements.All-head}
-use Rattle.std.proofs.{lemmas.List.Elements.All-tail, lemmas.Option.IfSome_then}
+use Rattle.std.proofs.Common.{ℕ, ◌*◌, ◌^◌, ◌<◌, ◌≤◌, List, [], ◌∷◌, map, All, arith, div-lt_iff_lt-mul}
+use Rattle.std.proofs.{lemmas.List.Elements.{All-head, All-tail}, lemmas.Option.IfSome_then}
 use Rattle.exact_time.proofs.Decimals.{ten_pow-pos}
 use Rattle.url_parts.specs.{declared.address.Part.Part, declared.range.Range.Range}
 use Rattle.timeline.specs.Expansions.{Timing}
-use Rattle.presentation.specs.{Counting.sections_of, Origins.StaticAreFinished, Presented.{Presented, listed_at}, Printing.durations_of}
-use Rattle.presentation.specs.{Verifying.{greatest, longest_at, longest_of}, PresentedLaws.IsInPace}
+use Rattle.presentation.specs.{Counting.sections_of, Presented.{Presented, listed_at}, Printing.durations_of}
+use Rattle.presentation.specs.Verifying.{greatest, longest_at, longest_of}
+use Rattle.mpd_presentation.specs.{Origins.StaticAreFinished, PresentedLaws.IsInPace}
 use Rattle.laws_of_playlists.specs.Origins.{AreShortInPace, IsLocated, IsSomeBytes, StaticAreInPace, StaticInitializationsAreLocated}
-use Rattle.laws_of_playlists.specs.{Origins.{StaticPartsAreLocated, StaticTracksAreWritable}, ReadMedia.{AreShort, IsReadableContent}}
-use Rattle.laws_of_playlists.specs.{ReadMedia.{IsReadablePart, IsReadableRange}, Same.EndInTurn, SameFiles.{IsReadable, WrittenMeanTheSame}}
-use Rattle.laws_of_playlists.specs.SameStatic.{WrittenMeansTheSame}
+use Rattle.laws_of_playlists.specs.Origins.{StaticPartsAreLocated, StaticTracksAreWritable}
+use Rattle.laws_of_playlists.specs.{ReadMedia.{AreShort, IsReadableContent, IsReadablePart, IsReadableRange}, Same.EndInTurn}
+use Rattle.laws_of_playlists.specs.{SameFiles.{IsReadable, WrittenMeanTheSame}, SameStatic.WrittenMeansTheSame}
 
 pub in_turn : (xs : List Timing) → IsInPace xs → EndInTurn xs
 in_turn [] pace = (pace.0, tt)

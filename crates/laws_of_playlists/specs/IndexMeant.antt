@@ -4,7 +4,7 @@ use Rattle.std.specs.Prelude.{◌≡◌, ℕ, List, Option, Some, Ok}
 use Rattle.bridge_io.specs.Outside.{Files}
 use Rattle.mpd_levels.specs.declared.indexed.IndexRow.{IndexRow}
 use Rattle.mpd_rules.specs.{Rules.indexed_mpd_of, Typed.TypedMpd}
-use Rattle.mpd_text.specs.{Meaning.reading_of, Trees.Element}
+use Rattle.mpd_tree.specs.{Meaning.reading_of, Trees.Element}
 use Rattle.presentation.specs.Presented.{Presented}
 use Rattle.index_parts.specs.{Meanings.{indexed_meaning, meaning_of}, Presented.indexed_of}
 

@@ -3,8 +3,9 @@ use Rattle.std.specs.Prelude.{◌≡◌, ℕ, ◌≤◌, true, List, length, All
 use Rattle.bridge_io.specs.Outside.{Files}
 use Rattle.mpd_levels.specs.declared.indexed.IndexRow.{IndexRow}
 use Rattle.mpd_rules.specs.{Rules.indexed_mpd_of, Typed.TypedMpd}
-use Rattle.mpd_text.specs.Trees.{Element}
-use Rattle.presentation.specs.{declared.parts.Content.Content, Presented.{Presented, is_finished, listed_at}, PresentedLaws.IsInPace}
+use Rattle.mpd_tree.specs.Trees.{Element}
+use Rattle.presentation.specs.{declared.parts.Content.Content, Presented.{Presented, is_finished, listed_at}}
+use Rattle.mpd_presentation.specs.PresentedLaws.{IsInPace}
 use Rattle.laws_of_playlists.specs.{Origins.{AreLocated, IsFound, IsLocated}, Tracks.AreWritable}
 use Rattle.index_parts.specs.Presented.{indexed_of}
 

@@ -4,11 +4,11 @@ use Rattle.std.specs.Prelude.{◌≡◌, ℕ, ℤ, ◌*◌, ◌<◌, ◌≤◌, 
 use Rattle.url_parts.specs.{Addresses.{IsAddress, absolute}, declared.address.Part.Part}
 use Rattle.timeline.specs.{Expansions.{SegmentTimeline, Timing}, Listed.part_of_timing}
 use Rattle.mpd_levels.specs.{declared.indexed.IndexRow.IndexRow, Segments.Segments}
-use Rattle.mpd_rules.specs.{declared.rows.PeriodRow.PeriodRow, declared.rows.TrackRow.TrackRow, Indexes.index_told, Rules.indexed_mpd_of}
-use Rattle.mpd_rules.specs.{Rules.typed_mpd_of, Typed.TypedMpd}
-use Rattle.mpd_text.specs.{Trees.{Head, Forest, nothing, element, Element}, Meaning.reading_of}
-use Rattle.presentation.specs.{declared.parts.Content.Content, Origins.CameFromStaticMpd, Presented.{Presented, listed_at}}
-use Rattle.presentation.specs.{Printing.{IsCounted, durations_of}, Told.presented_of, PresentedLaws.IsInPace}
+use Rattle.mpd_rules.specs.{declared.rows.PeriodRow.PeriodRow, declared.rows.TrackRow.TrackRow, Indexes.index_told}
+use Rattle.mpd_rules.specs.{Rules.{indexed_mpd_of, typed_mpd_of}, Typed.TypedMpd}
+use Rattle.mpd_tree.specs.{Trees.{Head, Forest, nothing, element, Element}, Meaning.reading_of}
+use Rattle.presentation.specs.{declared.parts.Content.Content, Presented.{Presented, listed_at}, Printing.{IsCounted, durations_of}}
+use Rattle.mpd_presentation.specs.{Origins.CameFromStaticMpd, Told.presented_of, PresentedLaws.IsInPace}
 use Rattle.laws_of_playlists.specs.Tracks.{AreWritable, AreWritableIfFew}
 
 -- ---- MPDs, static and dynamic

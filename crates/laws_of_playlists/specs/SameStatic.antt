@@ -2,7 +2,8 @@
 use Rattle.std.specs.Prelude.{◌≡◌, ℕ, ◌≤◌, List, ◌++◌, length}
 use Rattle.bridge_io.specs.Outside.{Files}
 use Rattle.url_parts.specs.Addresses.{folder_of}
-use Rattle.presentation.specs.{Origins.CameFromStaticMpd, Presented.Presented}
+use Rattle.presentation.specs.Presented.{Presented}
+use Rattle.mpd_presentation.specs.Origins.{CameFromStaticMpd}
 use Rattle.hls_writer.specs.Verified.{IsVerified}
 use Rattle.laws_of_playlists.specs.{Origins.IsFound, SameFiles.{AreWritten, HoldsFiles, MeanTheSame, master_name}}
 

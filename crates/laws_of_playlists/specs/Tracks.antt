@@ -4,7 +4,8 @@ use Rattle.std.specs.List.Sorted.{IsNonDecreasingBy}
 use Rattle.bridge_io.specs.declared.media.Kind.{Kind}
 use Rattle.mpd_values.specs.{Codecs.{are_codes, codes_of, is_foreign}, Languages.is_language}
 use Rattle.mpd_rules.specs.declared.rows.TrackRow.{TrackRow}
-use Rattle.presentation.specs.{declared.track.Track.Track, Rows.{by_kind, in_order, is_of, track_of}}
+use Rattle.presentation.specs.{declared.track.Track.Track, Order.{by_kind, is_of}}
+use Rattle.mpd_presentation.specs.Rows.{in_order, track_of}
 
 -- the tracks of one kind
 abbrev pub tracks_of_kind : Kind → List Track → List Track

@@ -7,7 +7,7 @@ ghost use Rattle.laws_of_playlists.specs.Origins.{StaticAreInPace, StaticHaveFew
 ghost use Rattle.laws_of_playlists.specs.Origins.{StaticInitializationsAreLocated, StaticPartsAreLocated, StaticTracksAreWritable};
 ghost use Rattle.laws_of_playlists.specs.Origins.{TracksAreWritable};
 
-use mpd_text::one_reading;
+use mpd_tree::one_reading;
 use timeline::closed_ends;
 
 /// The tracks of an MPD, static or dynamic, stand in the order of a presentation, a set has one language, and languages and

@@ -10,7 +10,8 @@ use crate::origins::{
 };
 use exact_time::sums_are_floors;
 use hls_meaning::sections_rise;
-use presentation::{presentations_mean_what_they_list, static_mpds_are_finished};
+use mpd_presentation::static_mpds_are_finished;
+use presentation::presentations_mean_what_they_list;
 
 /// What is read of a presentation's playlists means what the presentation means, with each time rounded down to the unit
 /// that durations are written in.

@@ -1,25 +1,31 @@
 -- What is written of a first MPD means what the MPD means: its segments are those of its presentation, section by section.
-use Rattle.followed.{proofs.{KeptPlaces.all_kept, Sections.{new_section, told_apart}}, specs.Durations.{durations, told}}
-use Rattle.std.proofs.{lemmas.Simd.map-map, Common.{◌≡◌, ℕ, zero, suc, ◌+◌, ◌^◌, ◌≤◌, ◌<◌, List, [], ◌∷◌, map, length, Option, Some, None}}
-use Rattle.std.proofs.{Common.{Ok, IfSome, refl, arith, ℤ, sym, ◌∙◌, ap, subst}, lemmas.List.{map-append, Elements.All-map}}
-use Rattle.std.{proofs.lemmas.Option.slice_get-map, specs.{Prelude.{All, true, flat_map, slice_get, option_map}, List.range_with_len}}
-use Rattle.std.specs.Option.{option_map_or}
+use Rattle.followed.proofs.{KeptPlaces.all_kept, Sections.{new_section, told_apart}}
+use Rattle.followed.specs.Durations.{durations, told}
+use Rattle.std.proofs.lemmas.Simd.{map-map}
+use Rattle.std.proofs.Common.{◌≡◌, ℕ, zero, suc, ◌+◌, ◌^◌, ◌≤◌, ◌<◌, List, [], ◌∷◌, map, length, Option, Some, None, Ok, IfSome, refl}
+use Rattle.std.proofs.{Common.{arith, ℤ, sym, ◌∙◌, ap, subst}, lemmas.List.map-append, lemmas.List.Elements.All-map}
+use Rattle.std.proofs.lemmas.Option.{slice_get-map}
+use Rattle.std.specs.{Prelude.{All, true, flat_map, slice_get, option_map}, List.range_with_len, Option.option_map_or}
 use Rattle.timeline.specs.{Expansions.{SegmentTimeline, Timing}, Listed.part_of_timing}
 use Rattle.presentation.specs.{declared.parts.Content.Content, Meanings.part_meant, Presented.{Presented, content_at, listed_at, start_of}}
-use Rattle.presentation.specs.{Printing.{durations_of, with_durations}, Counting.tracks_of, MeaningLaws.VerifiedAreMeant, Told.presented_of}
-use Rattle.presentation.{specs.{Verifying.{longest_of, verified}, PresentedLaws.SectionsArePeriods}, proofs.Reached.all_reached}
+use Rattle.presentation.specs.{Printing.{durations_of, with_durations}, Counting.tracks_of, MeaningLaws.VerifiedAreMeant}
+use Rattle.presentation.specs.Verifying.{longest_of, verified}
+use Rattle.mpd_presentation.specs.{Told.presented_of, PresentedLaws.SectionsArePeriods}
+use Rattle.presentation.proofs.Reached.{all_reached}
 use Rattle.hls_media.specs.declared.media.MediaSegment.{MediaSegment}
 use Rattle.hls_writer.specs.{Finished.{content_items, items_at, section_items, track_items}, Playlists.Item, Verified.IsVerified}
 use Rattle.mpd_rules.specs.Laws.{are_once, PeriodIdsDiffer}
 use Rattle.live_meaning.specs.Segments.{Kept, Numbering, Segment, id_at, listed_in_period, listed_of, place_of, segment_with, segments_of}
-use Rattle.live_meaning.specs.{Known.{Known, ids_of, is_new, known_at, known_with, periods_of}, Playlists.{item_of, FollowedPlaylist}}
-use Rattle.live_meaning.specs.{Playlists.{live_text, playlist_of, playlist_with}, Laws.{segment_of, HistoriesBegin, media_of}}
-use Rattle.live_meaning.specs.{Updates.{Refresh, Terms, Values, unit_of}, Histories.{Common, begun_common, begun_past, begun_with}}
-use Rattle.live_meaning.specs.{Histories.numbering_of, States.{State, shown, track_of}, Refusals.{begun_of, first_refusal_of}}
-use Rattle.live_meaning.proofs.{Accepted.{placed_at, first_in_force}, Orders.period_own, Histories.{ranged, told-segments, IsFirst}}
-use Rattle.live_meaning.proofs.Histories.{first_allowed, begun_from}
+use Rattle.live_meaning.specs.Known.{Known, ids_of, is_new, known_at, known_with, periods_of}
+use Rattle.live_meaning.specs.Playlists.{item_of, FollowedPlaylist, live_text, playlist_of, playlist_with}
+use Rattle.live_meaning.specs.{Laws.{segment_of, HistoriesBegin, media_of}, Updates.{Refresh, Terms, Values, unit_of}}
+use Rattle.live_meaning.specs.{Histories.{Common, begun_common, begun_past, begun_with, numbering_of}, States.{State, shown, track_of}}
+use Rattle.live_meaning.specs.Refusals.{begun_of, first_refusal_of}
+use Rattle.live_meaning.proofs.{Accepted.{placed_at, first_in_force}, Orders.period_own}
+use Rattle.live_meaning.proofs.Histories.{ranged, told-segments, IsFirst, first_allowed, begun_from}
 use Rattle.laws_of_playlists.specs.{ReadMedia.{segment_in, track_media}, Origins.{AreInPace, CameFromMpd, TracksAreWritable}}
-use Rattle.laws_of_playlists.{specs.SameFiles.TracksMeanTheSame, proofs.SameStatic.in_turn}
+use Rattle.laws_of_playlists.specs.SameFiles.{TracksMeanTheSame}
+use Rattle.laws_of_playlists.proofs.SameStatic.{in_turn}
 use Rattle.laws_of_reloads.specs.{First.FirstFilesMeanTheSame, Laws.{FollowedTextsAreRead, IsRead}}
 
 pub place_at_first : (p : Presented) (s : ℕ) → are_once (ids_of (known_with [] p)) ≡ true → s < length p.sections

@@ -1,45 +1,49 @@
 -- What is written of followed tracks is read again: no target duration is long, and segments of accepted updates have addresses.
 use Rattle.hls_media.specs.Media as hls
 use Rattle.laws_of_playlists.specs.ReadMedia as read
+use Rattle.mpd_levels.specs.Segments.{segments_of as told_segments_of}
 use Rattle.std.proofs.Common.{zero, suc, ◌≡◌, ℕ, true, ◌+◌, ◌*◌, ◌^◌, ◌≤◌, ◌<◌, List, [], ◌∷◌, ◌++◌, map, length, Option, Ok, IfSome, sym}
 use Rattle.std.proofs.Common.{subst, arith, ◌-◌, Bool, ℤ, filter, Some, None, refl, ◌∙◌, ap, inl, inr, drop, length-append}
-use Rattle.std.proofs.{lemmas.{Bool.{Decides.nat_tests, cases_Bool}, Grind.div_ceil_times}, Math.Nat.{mul-le-mul_left, one-le-pow}}
-use Rattle.std.proofs.lemmas.List.{Elements.{All-append, filter_passes, All-push, All-drop, All-map, All-nil}, get_or_at, length_push}
-use Rattle.std.{proofs.lemmas.{List.{get_or_append_left, Sums.fold-append}, Option.slice_get-map}, specs.Prelude.{All, codes}}
-use Rattle.std.specs.{Prelude.{option_and_then, unwrap_or, flat_map, option_map, slice_get}, List.{range_with_len, fold}}
+use Rattle.std.proofs.{lemmas.Bool.Decides.nat_tests, lemmas.Bool.cases_Bool, lemmas.Grind.div_ceil_times}
+use Rattle.std.proofs.Math.Nat.{mul-le-mul_left, one-le-pow}
+use Rattle.std.proofs.lemmas.List.Elements.{All-append, filter_passes, All-push, All-drop, All-map, All-nil}
+use Rattle.std.proofs.{lemmas.List.{get_or_at, length_push, get_or_append_left}, lemmas.List.Sums.fold-append, lemmas.Option.slice_get-map}
+use Rattle.std.specs.{Prelude.{All, codes, option_and_then, unwrap_or, flat_map, option_map, slice_get}, List.{range_with_len, fold}}
 use Rattle.std.specs.Option.{option_map_or}
 use Rattle.iso_time.specs.Duration.{duration_of}
-use Rattle.mpd_text.specs.Trees.{Element}
+use Rattle.mpd_tree.specs.Trees.{Element}
 use Rattle.mpd_profile.specs.{Heads.{is_dynamic, value_named}, declared.listed.Addressing.TheVariants.Segments as OneByOne}
-use Rattle.mpd_profile.{specs.Refusals.{feature_refusals, refusals_of, root_refusals, value_refusals}, proofs.Sound.sound_root}
-use Rattle.mpd_levels.specs.Segments.{segments_of as told_segments_of}
+use Rattle.mpd_profile.specs.Refusals.{feature_refusals, refusals_of, root_refusals, value_refusals}
+use Rattle.mpd_profile.proofs.Sound.{sound_root}
 use Rattle.mpd_rules.specs.{Readings.duration_within, Rules.{all_refusals, dash_values, segments_refused, typed_mpd_of}}
 use Rattle.mpd_rules.proofs.Fitting.{mpd_fits}
 use Rattle.presentation.specs.{Counting.{count_faults, sections_of}, Presented.{Presented, listed_at}, Printing.durations_of}
 use Rattle.presentation.specs.Verifying.{greatest, longest_at, longest_of, part_fault, part_faults, url_faults}
-use Rattle.presentation.specs.{declared.parts.Content.Content, Laws.HasAddress, MeaningLaws.MadeAreMeant, Told.presented_of}
-use Rattle.presentation.proofs.{Ending.none_behind, Reached.{all_reached, none_first, none_later, none_within}, Addressed.all_addressed}
-use Rattle.presentation.proofs.Grids.{All-at}
-use Rattle.live_meaning.specs.{Updates.{Values, Terms, Update, mpd_of, unit_of}, Histories.{longest_in, Common, Whole, begun_common}}
-use Rattle.live_meaning.specs.{Histories.{common_with, new_listed, numbering_of, whole_of, Past, all_of}, Removal.{half_more, target_of}}
-use Rattle.live_meaning.specs.{Segments.{Numbering, Segment, behind, is_later, listed_of, Kept, segments_of}, States.{Track, track_of}}
-use Rattle.live_meaning.specs.{States.{shown, state_of}, Refusals.{is_new_at, new_at, urls_in, update_refusal}, Laws.IsAccepted}
-use Rattle.live_meaning.specs.Laws.{AcceptedAreAccepted, AreTyped, DurationsFitTarget, IsTyped, NumbersStaySmall, ReloadsAreLawful}
-use Rattle.live_meaning.specs.Laws.{SectionsHaveOneMap, SectionsNeverFall, Shows, accepted_of, media_of, segment_of, with_accepted}
-use Rattle.live_meaning.specs.Playlists.{FollowedPlaylist, first_section, head_of, item_of, live_text, playlist_with}
-use Rattle.live_meaning.proofs.Histories.{EachBehind, forced, accepted_hold, Each, get_drop, kept_segments, told-segments, unmapped, sound}
-use Rattle.live_meaning.proofs.{Orders.{behind_have, listed_have, made_in}, Playlists.shown_playlist}
+use Rattle.presentation.specs.{declared.parts.Content.Content, Laws.HasAddress, MeaningLaws.MadeAreMeant}
+use Rattle.mpd_presentation.specs.Told.{presented_of}
+use Rattle.presentation.proofs.{Reached.{all_reached, none_first, none_later, none_within}, Addressed.all_addressed, Grids.All-at}
+use Rattle.mpd_presentation.proofs.Ending.{none_behind}
+use Rattle.live_meaning.specs.Updates.{Values, Terms, Update, mpd_of, unit_of}
+use Rattle.live_meaning.specs.Histories.{longest_in, Common, Whole, begun_common, common_with, new_listed, numbering_of, whole_of, Past}
+use Rattle.live_meaning.specs.{Histories.all_of, Removal.{half_more, target_of}}
+use Rattle.live_meaning.specs.Segments.{Numbering, Segment, behind, is_later, listed_of, Kept, segments_of}
+use Rattle.live_meaning.specs.{States.{Track, track_of, shown, state_of}, Refusals.{is_new_at, new_at, urls_in, update_refusal}}
+use Rattle.live_meaning.specs.Laws.{IsAccepted, AcceptedAreAccepted, AreTyped, DurationsFitTarget, IsTyped, NumbersStaySmall}
+use Rattle.live_meaning.specs.Laws.{ReloadsAreLawful, SectionsHaveOneMap, SectionsNeverFall, Shows, accepted_of, media_of, segment_of}
+use Rattle.live_meaning.specs.{Laws.with_accepted, Playlists.{FollowedPlaylist, first_section, head_of, item_of, live_text, playlist_with}}
+use Rattle.live_meaning.proofs.Histories.{EachBehind, forced, accepted_hold, Each, get_drop, kept_segments, told-segments, unmapped}
+use Rattle.live_meaning.proofs.{Histories.sound, Orders.{behind_have, listed_have, made_in}, Playlists.shown_playlist}
 use Rattle.laws_of_playlists.specs.Origins.{AreInPace, AreShortInPace, CameFromMpd, AreLocated, InitializationsAreLocated, IsFound}
-use Rattle.laws_of_playlists.specs.{Origins.{IsLocated, PartsAreLocated, ReadingsAreOfBytes}, ReadMedia.{AreInOrder, FollowedAreRead, GoOn}}
-use Rattle.laws_of_playlists.specs.ReadMedia.{IsReadableItem, IsReadablePart, IsReadableRange, IsShortNumber, ReadsAs}
+use Rattle.laws_of_playlists.specs.Origins.{IsLocated, PartsAreLocated, ReadingsAreOfBytes}
+use Rattle.laws_of_playlists.specs.ReadMedia.{AreInOrder, FollowedAreRead, GoOn, IsReadableItem, ReadsAs}
 use Rattle.laws_of_playlists.proofs.OriginKept.{are_untold}
 use Rattle.url_parts.specs.Addresses.{IsAddress}
 use Rattle.timeline.specs.{Expansions.{SegmentTimeline, Timing}, Listed.part_of_timing}
 use Rattle.followed.specs.Durations.{Last, durations, told}
-use Rattle.laws_of_reloads.specs.Laws.{IsRead, IsReadIfAny, AreRead, FollowedTextsAreRead, FollowedTextsReload, IsFollowed, ReadTextsReload}
+use Rattle.laws_of_reloads.specs.Laws.{IsRead, IsReadIfAny, AreRead, FollowedTextsAreRead, FollowedTextsReload, IsFollowed}
+use Rattle.laws_of_reloads.specs.Laws.{ReadTextsReload}
 use Rattle.bridge_io.specs.{Answer.and_then, Places.place_of}
-use Rattle.hls_media.specs.Media.{lines_or_fault, media_in, media_of as read_media, media_values, values_or_fault}
-use Rattle.hls_media.specs.declared.media.Media.{Media}
+use Rattle.hls_media.specs.{Media.{lines_or_fault, media_in, media_of as read_media}, declared.media.Media.Media}
 use Rattle.hls_writer.specs.Finished.{rounded}
 use Rattle.reload_law.specs.Laws.{RulesAreSentences}
 

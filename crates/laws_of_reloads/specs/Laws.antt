@@ -1,7 +1,7 @@
 -- What is read of the written playlists of a followed presentation.
 use Rattle.std.specs.Prelude.{◌≡◌, ℕ, ◌≤◌, All, List, [], ◌∷◌, ◌++◌, length, Option, Some, None, Ok}
 use Rattle.url_parts.specs.Addresses.{IsAddress}
-use Rattle.mpd_text.specs.{Trees.Element, Meaning.reading_of}
+use Rattle.mpd_tree.specs.{Trees.Element, Meaning.reading_of}
 use Rattle.mpd_rules.specs.Rules.{typed_mpd_of}
 use Rattle.hls_media.specs.{Media.media_of as read_media, declared.media.Media.Media}
 use Rattle.reload_law.specs.Laws.{IsLawful}

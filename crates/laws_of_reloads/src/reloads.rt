@@ -11,8 +11,9 @@ use live_meaning::{
     accepted_never_drift, histories_go_on, playlists_are_never_empty, reloads_are_lawful,
     sections_have_one_map,
 };
+use mpd_presentation::presentations_show_their_mpd;
 use mpd_rules::laws::period_ids_differ;
-use presentation::{presentations_mean_what_they_list, presentations_show_their_mpd};
+use presentation::presentations_mean_what_they_list;
 use reload_law::rules_are_sentences;
 
 /// The text of each playlist of an accepted history of MPDs that were read is read as the playlist that it was written

@@ -4,18 +4,18 @@ use Rattle.std.proofs.{Common.arith, lemmas.List.length-map, lemmas.List.Element
 use Rattle.std.specs.{Prelude.{All, IfSome, filter}, Option.option_map_or}
 use Rattle.mpd_rules.specs.Laws.{PeriodIdsDiffer}
 use Rattle.presentation.specs.{declared.fault.PresentationFault.PresentationFault, Counting.tracks_of, Presented.{Following, Presented}}
-use Rattle.presentation.specs.{PresentedLaws.{PresentedAreFew, PresentedAreFollowed, SectionsArePeriods}, Told.presented_of}
+use Rattle.mpd_presentation.specs.{PresentedLaws.{PresentedAreFew, PresentedAreFollowed, SectionsArePeriods}, Told.presented_of}
 use Rattle.followed.specs.Durations.{last_behind}
-use Rattle.live_meaning.specs.{Updates.{Terms, Values, unit_of}, Segments.{Segment, listed_of, place_behind, segments_of}, Known.Known}
-use Rattle.live_meaning.specs.{Known.{ids_of, is_new}, Histories.{Common, begun_common, begun_past, begun_with, numbering_of}, States.State}
-use Rattle.live_meaning.specs.{States.{shown, track_of}, Refusals.{Refusal, begun_by as begun_state, begun_of, first_refusal_of, ids_in}}
-use Rattle.live_meaning.specs.Laws.{IsTyped}
+use Rattle.live_meaning.specs.{Updates.{Terms, Values, unit_of}, Segments.{Segment, listed_of, place_behind, segments_of}}
+use Rattle.live_meaning.specs.{Known.{Known, ids_of, is_new}, Histories.{Common, begun_common, begun_past, begun_with, numbering_of}}
+use Rattle.live_meaning.specs.States.{State, shown, track_of}
+use Rattle.live_meaning.specs.{Refusals.{Refusal, begun_by as begun_state, begun_of, first_refusal_of, ids_in}, Laws.IsTyped}
 use Rattle.live_meaning.proofs.{Histories.{IsFirst, first_allowed, told-segments}, Accepted.{IsInForce, first_in_force, known_grown}}
 use Rattle.live_meaning.proofs.Orders.{listed_numbered}
-use Rattle.live_judge.specs.{Changed.first_place, FirstStates.{FirstPeriodsStand, FirstStatesAreSound}, Known.StandsAt, Sound.IsSegmentOf}
-use Rattle.live_judge.specs.Sound.{IsSound, IsSoundTrack}
-use Rattle.live_judge.proofs.{Places.{first_within, stand_by}, Forced.{IsNew, mpd_new, listed, order}, Reaching.{IsReached, none_reached}}
-use Rattle.live_judge.proofs.Reaching.{reached, sound_reached}
+use Rattle.live_judge.specs.{Changed.first_place, FirstStates.{FirstPeriodsStand, FirstStatesAreSound}, Known.StandsAt}
+use Rattle.live_judge.specs.Sound.{IsSegmentOf, IsSound, IsSoundTrack}
+use Rattle.live_judge.proofs.{Places.{first_within, stand_by}, Forced.{IsNew, mpd_new, listed, order}}
+use Rattle.live_judge.proofs.Reaching.{IsReached, none_reached, reached, sound_reached}
 
 pub all_new : (ks : List Known) → filter (is_new []) ks ≡ ks
 all_new [] = refl

@@ -5,16 +5,18 @@ use Rattle.std.proofs.{lemmas.Bool.and_parts, lemmas.List.Elements.{All-nil, fil
 use Rattle.std.specs.{Prelude.{IfSome, filter, if◌then◌else◌, int_lt, option_map, slice_get, unwrap_or, All, is_none}, List.list_any}
 use Rattle.std.specs.Option.{option_map_or}
 use Rattle.mpd_rules.specs.Laws.{are_once}
-use Rattle.presentation.specs.{Counting.sections_of, Presented.{Following, Presented, at_instant, listed_at, looked_at, start_of}}
-use Rattle.presentation.specs.{Presented.{content_at, listed_in, whole_window, window_at, window_of}, PresentedLaws.PresentedAreFew}
-use Rattle.presentation.specs.{PresentedLaws.PresentedAreFollowed, Told.presented_of, declared.parts.Content.Content}
-use Rattle.live_meaning.specs.{Updates.{Refresh, Reset, Tick, Update, Values}, Segments.{id_at, place_of, listed_of}, Known.Known}
-use Rattle.live_meaning.specs.{Known.{goes_on, ids_of, is_new, known_by, periods_of}, Histories.{Common, availability_start_of}}
-use Rattle.live_meaning.specs.{Histories.{common_with, force_by, numbering_of}, States.State, Refusals.{Changed, are_alike, differs_at}}
-use Rattle.live_meaning.specs.Refusals.{ids_in, is_changed, lack_ids, moved_told, mpd_told, older_than, rewritten_told, starts_otherwise}
-use Rattle.live_meaning.specs.{Refusals.told_if, Laws.HasRisingPeriods}
-use Rattle.live_meaning.proofs.{Histories.{IsAllowed, none_each, told_none, get_more, mapped}, Accepted.{place_is, IsInForce, IsKnownIn}}
-use Rattle.live_meaning.proofs.{Accepted.{later_in_force, id_there}, Orders.{period_timed, listed_have, periods_are_listed_in_order}}
+use Rattle.presentation.specs.Counting.{sections_of}
+use Rattle.presentation.specs.Presented.{Following, Presented, at_instant, listed_at, looked_at, start_of, content_at, listed_in}
+use Rattle.presentation.specs.{Presented.{whole_window, window_at, window_of}, declared.parts.Content.Content}
+use Rattle.mpd_presentation.specs.{PresentedLaws.{PresentedAreFew, PresentedAreFollowed}, Told.presented_of}
+use Rattle.live_meaning.specs.{Updates.{Refresh, Reset, Tick, Update, Values}, Segments.{id_at, place_of, listed_of}}
+use Rattle.live_meaning.specs.Known.{Known, goes_on, ids_of, is_new, known_by, periods_of}
+use Rattle.live_meaning.specs.{Histories.{Common, availability_start_of, common_with, force_by, numbering_of}, States.State}
+use Rattle.live_meaning.specs.Refusals.{Changed, are_alike, differs_at, ids_in, is_changed, lack_ids, moved_told, mpd_told, older_than}
+use Rattle.live_meaning.specs.{Refusals.{rewritten_told, starts_otherwise, told_if}, Laws.HasRisingPeriods}
+use Rattle.live_meaning.proofs.Histories.{IsAllowed, none_each, told_none, get_more, mapped}
+use Rattle.live_meaning.proofs.Accepted.{place_is, IsInForce, IsKnownIn, later_in_force, id_there}
+use Rattle.live_meaning.proofs.Orders.{period_timed, listed_have, periods_are_listed_in_order}
 use Rattle.live_judge.specs.{Changed.AreUnmoved, Known.StandsAt, Sound.{AreTimed, IsSound, StartsAt, IsSegmentOf}}
 use Rattle.live_judge.proofs.{Listing.starts_by, Places.{known_there, last_stands, place_there, same_stand, stands_there}}
 use Rattle.exact_time.specs.Time.{IsAtMost, Time, nanoseconds}

@@ -7,16 +7,17 @@ use Rattle.std.specs.{Prelude.{IfSome, IsSome, flat_map, int_lt, option_map, unw
 use Rattle.mpd_rules.specs.Views.{segments_mpd}
 use Rattle.presentation.specs.{declared.fault.PresentationFault.PresentationFault, declared.track.Track.Track as Described}
 use Rattle.presentation.specs.Counting.{count_at, range_at, range_by, range_faults, range_faults_of, sections_of, tracks_of, unless_any}
-use Rattle.presentation.specs.{Presented.{Following, Presented, at_instant, looked_at, is_finished}, PresentedLaws.PresentedAreFew}
-use Rattle.presentation.specs.{PresentedLaws.PresentedAreFollowed, Told.presented_of, Laws.EndsAreCounted}
+use Rattle.presentation.specs.{Presented.{Following, Presented, at_instant, looked_at, is_finished}, Laws.EndsAreCounted}
+use Rattle.mpd_presentation.specs.{PresentedLaws.{PresentedAreFew, PresentedAreFollowed}, Told.presented_of}
 use Rattle.timeline.specs.declared.fault.TimeFault.{TimeFault}
 use Rattle.live_meaning.specs.{Updates.{Values, is_reset, mpd_of, Refresh, Reset, Tick, Update}, Known.{Known, ids_of, known_with}}
-use Rattle.live_meaning.specs.{Histories.{Common, availability_start_of, common_with}, Refusals.{Presentation, Refusal, are_alike, ids_in}}
-use Rattle.live_meaning.specs.{Refusals.is_alike, States.State}
+use Rattle.live_meaning.specs.Histories.{Common, availability_start_of, common_with}
+use Rattle.live_meaning.specs.{Refusals.{Presentation, Refusal, are_alike, ids_in, is_alike}, States.State}
 use Rattle.live_judge.specs.{declared.coming.Coming.Coming, declared.standing.Standing.Standing, declared.track.LiveTrack.LiveTrack}
-use Rattle.live_judge.specs.{Changed.{IsPlaceBy, IsPlaceOf, listed_told, AreUnmoved}, Coming.{Comes, update_of, IsNext, IsQuiet, p_of}}
-use Rattle.live_judge.specs.{Coming.{timed_told, told_before}, Faults.{Tells, of_presentation, told}, Known.StandsAt, Shown.common_shown}
-use Rattle.live_judge.specs.{Shown.{track_shown, in_force}, Sound.{IsLive, StartsAt}, declared.coming.Next.Next, Rewriting.kept_told}
+use Rattle.live_judge.specs.Changed.{IsPlaceBy, IsPlaceOf, listed_told, AreUnmoved}
+use Rattle.live_judge.specs.Coming.{Comes, update_of, IsNext, IsQuiet, p_of, timed_told, told_before}
+use Rattle.live_judge.specs.{Faults.{Tells, of_presentation, told}, Known.StandsAt, Shown.{common_shown, track_shown, in_force}}
+use Rattle.live_judge.specs.{Sound.{IsLive, StartsAt}, declared.coming.Next.Next, Rewriting.kept_told}
 use Rattle.live_judge.proofs.Places.{first_within, new_stand, same_stand}
 
 -- ---- open ends

@@ -9,17 +9,20 @@ use Rattle.exact_time.specs.Time.{IsAtMost, Time, nanoseconds, IsTime}
 use Rattle.exact_time.proofs.TimeOrder.{IsAtMost-trans, at_most-from}
 use Rattle.timeline.specs.{declared.window.Window.Window, Expansions.{SegmentTimeline, Timing}, Listed.{expansion, is_until}}
 use Rattle.timeline.specs.{OpenEnds.UntilTells, Steady.AreLasting}
-use Rattle.presentation.specs.{declared.parts.Content.Content, Presented.{Following, at_instant, content_at, start_of, whole_window}}
-use Rattle.presentation.specs.{Presented.{window_at, window_of, Presented, looked_at}, Told.presented_of}
-use Rattle.presentation.proofs.{Grids.All-at, Pace.expansion_has}
-use Rattle.live_meaning.specs.{Segments.{Segment, id_at, place_of, times_of}, Known.{Known, ids_of}, Refusals.{Rewritten, expansion_at}}
-use Rattle.live_meaning.specs.{Refusals.{ids_in, latest_in, latest_of, rewritten_by, rewritten_in}, Histories.availability_start_of}
-use Rattle.live_meaning.specs.Updates.{mpd_of}
+use Rattle.presentation.specs.declared.parts.Content.{Content}
+use Rattle.presentation.specs.Presented.{Following, at_instant, content_at, start_of, whole_window, window_at, window_of, Presented}
+use Rattle.presentation.specs.Presented.{looked_at}
+use Rattle.mpd_presentation.specs.Told.{presented_of}
+use Rattle.presentation.proofs.Grids.{All-at}
+use Rattle.mpd_presentation.proofs.Pace.{expansion_has}
+use Rattle.live_meaning.specs.{Segments.{Segment, id_at, place_of, times_of}, Known.{Known, ids_of}}
+use Rattle.live_meaning.specs.Refusals.{Rewritten, expansion_at, ids_in, latest_in, latest_of, rewritten_by, rewritten_in}
+use Rattle.live_meaning.specs.{Histories.availability_start_of, Updates.mpd_of}
 use Rattle.live_meaning.proofs.{Accepted.{new_in, id_there, known_grown}, Orders.{IsSoundIn, presented_sound}}
 use Rattle.live_judge.specs.{declared.block.Block.Block, declared.rewritten.Pair.Pair, declared.track_next.TrackNext.TrackNext}
-use Rattle.live_judge.specs.{Blocks.{IsBlock, in_block, segments_in}, Changed.AreUnmoved, Coming.{IsTrackNext, p_of, t_of, Comes}}
-use Rattle.live_judge.specs.{Coming.update_of, Removal.kept_in, Rewriting.{pair_of, EndAtTimes}, Shown.common_shown, Sound.IsSegmentOf}
-use Rattle.live_judge.specs.{declared.coming.Coming.Coming, declared.standing.Standing.Standing}
+use Rattle.live_judge.specs.{Blocks.{IsBlock, in_block, segments_in}, Changed.AreUnmoved}
+use Rattle.live_judge.specs.{Coming.{IsTrackNext, p_of, t_of, Comes, update_of}, Removal.kept_in, Rewriting.{pair_of, EndAtTimes}}
+use Rattle.live_judge.specs.{Shown.common_shown, Sound.IsSegmentOf, declared.coming.Coming.Coming, declared.standing.Standing.Standing}
 use Rattle.live_judge.proofs.{Blocks.filter_none, Contents.{content_there, sound_there}, Places.place_before}
 use Rattle.mpd_levels.specs.Segments.{Segments}
 use Rattle.mpd_rules.specs.{Typed.TypedMpd, Views.segments_mpd}

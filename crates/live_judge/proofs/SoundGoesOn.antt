@@ -1,25 +1,29 @@
 -- A state with an accepted update more is sound.
 use Rattle.std.proofs.Common.{◌≡◌, ℕ, ◌+◌, ◌≤◌, Bool, false, List, [], ◌∷◌, ◌++◌, drop, length, Option, Some, None, Result, Ok, Err, refl}
-use Rattle.std.proofs.{Common.{sym, ◌∙◌, ap, subst, suc, arith, ◌<◌, ltb, length-append, length-drop}, lemmas.List.{drop-map, map-append}}
-use Rattle.std.proofs.{lemmas.List.length-map, lemmas.List.Elements.{All-nil, All-cons, All-append, All-drop, All-head, All-tail}}
-use Rattle.std.proofs.{lemmas.List.Elements.All-weaker, Math.Nat.{mul-le-mul_left, one-le-pow}, lemmas.Bool.ltb-false}
+use Rattle.std.proofs.Common.{sym, ◌∙◌, ap, subst, suc, arith, ◌<◌, ltb, length-append, length-drop}
+use Rattle.std.proofs.lemmas.List.{drop-map, map-append, length-map}
+use Rattle.std.proofs.lemmas.List.Elements.{All-nil, All-cons, All-append, All-drop, All-head, All-tail, All-weaker}
+use Rattle.std.proofs.{Math.Nat.{mul-le-mul_left, one-le-pow}, lemmas.Bool.ltb-false}
 use Rattle.std.specs.Prelude.{All, if◌then◌else◌, int_lt, option_map, slice_get}
 use Rattle.presentation.specs.{declared.fault.PresentationFault.PresentationFault, Presented.{Presented, looked_at}}
-use Rattle.presentation.specs.PresentedLaws.{PresentedAreFew, PresentedAreFollowed}
+use Rattle.mpd_presentation.specs.PresentedLaws.{PresentedAreFew, PresentedAreFollowed}
 use Rattle.followed.specs.Durations.{last_behind, durations}
-use Rattle.live_meaning.specs.{Updates.{Update, is_reset, now_of, unit_of, Refresh, Reset, Tick, mpd_of}, Segments.{Kept, Segment}}
-use Rattle.live_meaning.specs.{Segments.{listed_of, place_behind, segments_of}, Known.{Known, ids_of, known_with}, Histories.Common}
-use Rattle.live_meaning.specs.{Histories.{availability_start_of, common_with, force_by, numbering_of, least_length}, States.{State, Track}}
-use Rattle.live_meaning.specs.States.{kept_and_new, new_of, new_told, removed_from, state_with, track_after, tracks_after}
+use Rattle.live_meaning.specs.Updates.{Update, is_reset, now_of, unit_of, Refresh, Reset, Tick, mpd_of}
+use Rattle.live_meaning.specs.{Segments.{Kept, Segment, listed_of, place_behind, segments_of}, Known.{Known, ids_of, known_with}}
+use Rattle.live_meaning.specs.Histories.{Common, availability_start_of, common_with, force_by, numbering_of, least_length}
+use Rattle.live_meaning.specs.States.{State, Track, kept_and_new, new_of, new_told, removed_from, state_with, track_after, tracks_after}
 use Rattle.live_meaning.specs.Refusals.{ClockBack, Refusal, clock_told, ended_told, next_of, next_with, refusal_of, told_by, Window}
 use Rattle.live_meaning.specs.{Refusals.{count_kept, counts_kept, ids_in, over_in_all, over_in_track, told_if}, Removal.is_available}
-use Rattle.live_meaning.proofs.{Histories.{IsAllowed, allowed, none_each, told_none, get_more, told-segments, mapped}, Orders.behind_have}
-use Rattle.live_meaning.proofs.{Orders.listed_numbered, Playlists.{few_known, resets_most}}
-use Rattle.live_judge.specs.{Sound.{IsSegmentOf, IsSound, IsSoundTrack}, SoundGoesOn.{SoundStatesGoOn, IsKept, NumbersFit, KeptGoOn}}
-use Rattle.live_judge.specs.{SoundGoesOn.{NumbersGoOn, PeriodsStandOn}, Changed.IsPlaceBy, Known.StandsAt}
-use Rattle.live_judge.proofs.{Forced.{IsNew, forced, listed, order}, Reaching.{IsReached, lasts_of, reached_behind, reached_left}}
-use Rattle.live_judge.proofs.{Reaching.sound_reached, Rewriting.later_ended, Places.{new_stand, same_stand}, Walks.none_from_first}
-use Rattle.presentation.proofs.{Ending.none_behind, Reached.none_first}
+use Rattle.live_meaning.proofs.Histories.{IsAllowed, allowed, none_each, told_none, get_more, told-segments, mapped}
+use Rattle.live_meaning.proofs.{Orders.{behind_have, listed_numbered}, Playlists.{few_known, resets_most}}
+use Rattle.live_judge.specs.Sound.{IsSegmentOf, IsSound, IsSoundTrack}
+use Rattle.live_judge.specs.{SoundGoesOn.{SoundStatesGoOn, IsKept, NumbersFit, KeptGoOn, NumbersGoOn, PeriodsStandOn}, Changed.IsPlaceBy}
+use Rattle.live_judge.specs.Known.{StandsAt}
+use Rattle.live_judge.proofs.Forced.{IsNew, forced, listed, order}
+use Rattle.live_judge.proofs.{Reaching.{IsReached, lasts_of, reached_behind, reached_left, sound_reached}, Rewriting.later_ended}
+use Rattle.live_judge.proofs.{Places.{new_stand, same_stand}, Walks.none_from_first}
+use Rattle.presentation.proofs.Reached.{none_first}
+use Rattle.mpd_presentation.proofs.Ending.{none_behind}
 use Rattle.followed.proofs.KeptPlaces.{next_is_first}
 
 -- ---- an accepted update

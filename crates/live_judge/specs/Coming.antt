@@ -3,13 +3,15 @@ use Rattle.live_judge.specs.declared.coming.Coming.TheVariants as comes
 use Rattle.std.specs.Prelude.{◌≡◌, ℕ, ◌<◌, ◌≤◌, ℤ, int_lt, Bool, false, true, List, [], ◌++◌, length, map, slice_get, Option, Some, Ok}
 use Rattle.std.specs.Prelude.{unwrap_or}
 use Rattle.mpd_rules.specs.Views.{segments_mpd}
-use Rattle.presentation.specs.{Presented.{Presented, is_finished, looked_at}, Counting.range_faults, Printing.IsCounted, Told.presented_of}
-use Rattle.live_meaning.specs.{Updates.{Update, Values, Refresh, Reset, Tick, is_reset, mpd_of}, Known.ids_of, Histories.Common}
-use Rattle.live_meaning.specs.{Histories.{availability_start_of, common_with}, States.{State, Track}, Refusals.{Presentation, Refusal}}
-use Rattle.live_meaning.specs.Refusals.{counts_kept, ids_in, joint_told, long_told, mpd_told, window_told}
+use Rattle.presentation.specs.{Presented.{Presented, is_finished, looked_at}, Counting.range_faults, Printing.IsCounted}
+use Rattle.mpd_presentation.specs.Told.{presented_of}
+use Rattle.live_meaning.specs.{Updates.{Update, Values, Refresh, Reset, Tick, is_reset, mpd_of}, Known.ids_of}
+use Rattle.live_meaning.specs.{Histories.{Common, availability_start_of, common_with}, States.{State, Track}}
+use Rattle.live_meaning.specs.Refusals.{Presentation, Refusal, counts_kept, ids_in, joint_told, long_told, mpd_told, window_told}
 use Rattle.live_judge.specs.{declared.coming.Coming.Coming, declared.coming.Next.Next, declared.standing.Standing.Standing}
-use Rattle.live_judge.specs.{declared.track_next.TrackNext.TrackNext, Changed.listed_told, Known.StandsAt, Shown.{common_shown, in_force}}
-use Rattle.live_judge.specs.{Shown.track_shown, declared.track.LiveTrack.LiveTrack, New.new_timings, Sound.{IsLive, StartsAt}}
+use Rattle.live_judge.specs.{declared.track_next.TrackNext.TrackNext, Changed.listed_told, Known.StandsAt}
+use Rattle.live_judge.specs.{Shown.{common_shown, in_force, track_shown}, declared.track.LiveTrack.LiveTrack, New.new_timings}
+use Rattle.live_judge.specs.Sound.{IsLive, StartsAt}
 
 abbrev pub update_of : Coming → ℤ → Update
 update_of (comes.Refresh mpd) now = Refresh (segments_mpd mpd.now) now

@@ -9,7 +9,7 @@ use crate::LiveTrack;
 use timeline::Span;
 
 /// Kept segments that stand one behind another: their first place, and the one behind the last.
-#[derive(Clone, Copy, Debug)]
+#[derive(Clone, Copy)]
 pub(crate) struct Block {
     pub(crate) begin: usize,
     pub(crate) end: usize,

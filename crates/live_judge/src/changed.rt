@@ -5,7 +5,7 @@ ghost use Rattle.std.specs.Str.{bytes_eq};
 ghost use Rattle.mpd_rules.specs.Laws.{are_once};
 ghost use Rattle.mpd_rules.specs.Views.{segments_mpd};
 ghost use Rattle.presentation.specs.Counting.{sections_of};
-ghost use Rattle.presentation.specs.Rows.{is_of, same_language};
+ghost use Rattle.presentation.specs.Order.{is_of, same_language};
 ghost use Rattle.live_meaning.specs.Histories.{availability_start_of};
 ghost use Rattle.live_meaning.specs.Known.{all_same, attributes_at, goes_on_from, ids_of, same_attributes};
 ghost use Rattle.exact_time.specs.Tick.{time_of};

@@ -4,8 +4,9 @@ ghost use Rattle.std.specs.Prelude.{◌≡◌, ◌<◌, length, pos, slice_get, 
 use crate::changed::place_of;
 use crate::{LiveTrack, RefreshFault, Standing, TrackNext};
 use iso_time::Instant;
+use mpd_presentation::presentations_show_their_mpd;
 use mpd_rules::Mpd;
-use presentation::{Presentation, answers_allow_listings, presentations_show_their_mpd};
+use presentation::{Presentation, answers_allow_listings};
 
 /// What comes: a new version of the MPD; the same behind versions that were missed; or an instant alone.
 #[derive(Clone, Copy)]

@@ -18,7 +18,7 @@ use std::marker::Model;
 use url_parts::Part;
 
 /// What stays of a track in a Period (ISO/IEC 23009-1, 5.3.9.2).
-#[derive(Debug, Drop)]
+#[derive(Drop)]
 pub struct KeptAttributes {
     /// How many ticks make a second.
     pub timescale: u32,
@@ -29,7 +29,7 @@ pub struct KeptAttributes {
 }
 
 /// A Period as it was accepted first.
-#[derive(Debug, Drop)]
+#[derive(Drop)]
 pub struct KnownPeriod {
     /// Its id (ISO/IEC 23009-1, 5.3.2.2).
     pub id: Text,
@@ -42,7 +42,7 @@ pub struct KnownPeriod {
 /// The Periods that were seen, in the order of first sight.
 ///
 /// In a contract it is that list. Their places are found by an ordered search, since ids are strangers'.
-#[derive(Debug, Drop)]
+#[derive(Drop)]
 pub struct KnownPeriods {
     periods: Vec<KnownPeriod>,
     /// The place of each one by its id. Some more may be left here by a change that memory was wanting for.

@@ -2,8 +2,8 @@
 ghost use Rattle.live_judge.specs.FirstStates.{FirstPeriodsStand, FirstStatesAreSound};
 ghost use Rattle.live_judge.specs.SoundGoesOn.{KeptGoOn, NumbersGoOn, PeriodsStandOn, SoundStatesGoOn};
 
+use mpd_presentation::presentations_show_their_mpd;
 use mpd_rules::laws::period_ids_differ;
-use presentation::presentations_show_their_mpd;
 
 /// The state that a first MPD leaves is sound, and its Periods are all that are known.
 pub fn first_states_are_sound()

@@ -20,14 +20,14 @@ use exact_time::Tick;
 use timeline::{Cursor, Runs, Span, TimeWalk, Window, closed_ends};
 
 /// A kept segment and the new one in its place. There is no kept one where there are more new ones.
-#[derive(Clone, Copy, Debug)]
+#[derive(Clone, Copy)]
 pub(crate) struct Pair {
     pub(crate) kept: Option<Span>,
     pub(crate) new: Span,
 }
 
 /// Segments in order of which some are the last ones that end by a time.
-#[derive(Debug, Drop)]
+#[derive(Drop)]
 pub(crate) struct Ended<'a> {
     pub(crate) walk: TimeWalk<'a>,
     /// How many they are.

@@ -15,7 +15,7 @@ use exact_time::{Equal, Rounder, Tick};
 use timeline::{SpanRun, TimeWalk};
 
 /// The times of segments that go on behind others, with what their durations are printed by.
-#[derive(Debug, Drop)]
+#[derive(Drop)]
 pub(crate) struct NewTimes<'a> {
     pub(crate) walk: TimeWalk<'a>,
     pub(crate) rounder: Rounder,
@@ -27,7 +27,7 @@ pub(crate) struct NewTimes<'a> {
 }
 
 /// The printed durations of equally long segments.
-#[derive(Clone, Copy, Debug)]
+#[derive(Clone, Copy)]
 pub(crate) struct NewRun {
     /// That of the first one, which may follow on a gap.
     pub(crate) first: u64,

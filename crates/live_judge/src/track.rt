@@ -8,7 +8,7 @@ use hls_writer::MediaItem;
 use timeline::Span;
 
 /// What is kept of a segment beside what is written of it.
-#[derive(Clone, Copy, Debug)]
+#[derive(Clone, Copy)]
 pub struct Fact {
     /// Its times from the Period's start, and its number.
     pub span: Span,
@@ -32,7 +32,7 @@ pub struct LiveTrack {
 }
 
 /// The last segment of a track.
-#[derive(Clone, Copy, Debug)]
+#[derive(Clone, Copy)]
 pub struct LastKept {
     /// The place of its Period's id in the order of first sight.
     pub place: usize,

@@ -8,7 +8,7 @@ ghost use Rattle.live_judge.specs.Walk.{IsReady, told_at, told_by};
 use crate::{Next, RefreshFault, TrackNext};
 
 /// What is tried of a track.
-#[derive(Clone, Copy, Debug)]
+#[derive(Clone, Copy)]
 pub(crate) enum Rule {
     /// The update's MPD has its kept segments with the same times.
     Rewritten,

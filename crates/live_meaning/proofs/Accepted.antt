@@ -2,37 +2,45 @@
 -- of one section lie in one Period and have one map, and no duration is longer than the target allows.
 use Rattle.std.proofs.Common.{◌≡◌, ℕ, zero, suc, ◌+◌, Bool, true, false, not, List, [], ◌∷◌, ◌++◌, length, drop, take, filter, Some}
 use Rattle.std.proofs.Common.{bytes_eq, refl, sym, ◌∙◌, ap, subst, inl, inr, arith, ◌*◌, ◌<◌, ℤ, map, flat_map, Option, None, Ok, get_or}
-use Rattle.std.proofs.{Common.{◌≤◌, ◌/◌}, lemmas.{Bool.{and_parts, cases_Bool, cases_lt}, List.{append-nil, append_assoc}}}
-use Rattle.std.proofs.lemmas.List.{take-append-drop, length-map, map-append, Folds.{list_any-append, list_any_at, find-append, find_at}}
-use Rattle.std.proofs.lemmas.{List.Sums.prefix_len-le-length, Option.{same_Some, get_or_from_slice_get, slice_get_within, slice_get-map}}
-use Rattle.std.proofs.lemmas.{Slice.Eq.{bytes_eq-Decides, starts_is}, Bool.Decides.nat_tests, List.Elements.{filter-append, All-nil}}
-use Rattle.std.proofs.{lemmas.{List.Elements.{All-append, All-map}, Simd.map-map}, Math.Nat.{mul-le-mul_left, one-le-pow}}
-use Rattle.std.proofs.lemmas.{List.FromFn.{length-map-range_with_len, get_or-range_with_len, length-range_with_len}, Grind.div_ceil_times}
-use Rattle.std.{proofs.lemmas.Nat.div-add-mod', specs.Prelude.{is_none, slice_get, All, is_some, option_map, option_to_list}}
+use Rattle.std.proofs.{Common.{◌≤◌, ◌/◌}, lemmas.Bool.{and_parts, cases_Bool, cases_lt}}
+use Rattle.std.proofs.lemmas.List.{append-nil, append_assoc, take-append-drop, length-map, map-append}
+use Rattle.std.proofs.{lemmas.List.Folds.{list_any-append, list_any_at, find-append, find_at}, lemmas.List.Sums.prefix_len-le-length}
+use Rattle.std.proofs.lemmas.Option.{same_Some, get_or_from_slice_get, slice_get_within, slice_get-map}
+use Rattle.std.proofs.{lemmas.Slice.Eq.{bytes_eq-Decides, starts_is}, lemmas.Bool.Decides.nat_tests}
+use Rattle.std.proofs.{lemmas.List.Elements.{filter-append, All-nil, All-append, All-map}, lemmas.Simd.map-map}
+use Rattle.std.proofs.Math.Nat.{mul-le-mul_left, one-le-pow}
+use Rattle.std.proofs.lemmas.List.FromFn.{length-map-range_with_len, get_or-range_with_len, length-range_with_len}
+use Rattle.std.proofs.{lemmas.Grind.div_ceil_times, lemmas.Nat.div-add-mod'}
+use Rattle.std.specs.Prelude.{is_none, slice_get, All, is_some, option_map, option_to_list}
 use Rattle.std.specs.{List.{list_all, list_any, position_or_len, starts_with, find, range_with_len}, Option.option_map_or}
 use Rattle.bridge_io.proofs.Texts.{bytes_eq_sym, equals_itself, same_bytes}
 use Rattle.mpd_rules.specs.Laws.{are_once, PeriodIdsDiffer, ids_of as ids_said}
-use Rattle.live_meaning.specs.Segments.{place_of, Segment, id_at, listed_of, Kept, Numbering, listed_in_period, place_behind, segment_with}
+use Rattle.live_meaning.specs.Segments.{place_of, Segment, id_at, listed_of, Kept, Numbering, listed_in_period, place_behind}
+use Rattle.live_meaning.specs.Segments.{segment_with}
 use Rattle.live_meaning.specs.Known.{Known, goes_on, goes_on_from, ids_of, is_new, known_by, Attributes, all_same, attributes_at}
 use Rattle.live_meaning.specs.{Known.{attributes_of, has_id, known_at, known_with, periods_of}, Updates.{Terms, Update, Values, unit_of}}
 use Rattle.live_meaning.specs.Histories.{Common, numbering_of, Past, Whole, all_of, begun_common, common_with, longest_in, new_listed}
-use Rattle.live_meaning.specs.{Histories.whole_of, States.{State, shown, state_of}, Refusals.{Changed, are_alike, differs_at, ids_in}}
-use Rattle.live_meaning.specs.Refusals.{is_changed, moved_by, moved_told, mpd_told, older_than, rewritten_told, told_if}
+use Rattle.live_meaning.specs.{Histories.whole_of, States.{State, shown, state_of}}
+use Rattle.live_meaning.specs.Refusals.{Changed, are_alike, differs_at, ids_in, is_changed, moved_by, moved_told, mpd_told, older_than}
+use Rattle.live_meaning.specs.Refusals.{rewritten_told, told_if}
 use Rattle.live_meaning.specs.Laws.{HasRisingPeriods, IsTyped, AcceptedAreListedInOrder, AreTyped, DurationsFitTarget, IsAccepted}
-use Rattle.live_meaning.{specs.{Laws.{SectionsHaveOneMap, SectionsNeverFall}, Removal.half_more}, proofs.Histories.{IsAllowed, IsFirst}}
-use Rattle.live_meaning.proofs.Histories.{none_each, told_none, accepted_hold, ranged, unmapped, Each, get_more, forced, mapped, past_holds}
-use Rattle.live_meaning.proofs.{Histories.sound, Orders.{listed_have, flat_have, behind_have, past_ordered, period_own}}
-use Rattle.live_meaning.proofs.Orders.{periods_are_listed_in_order, steps_both, IsSoundIn, period_timed, presented_sound}
-use Rattle.presentation.specs.{declared.track.{Section.Section, Track.Track as Described}, Counting.sections_of, Presented.Presented}
-use Rattle.presentation.specs.{Presented.{content_at, looked_at, start_of, listed_at}, PresentedLaws.SectionsArePeriods, Rows.Row}
-use Rattle.presentation.specs.{Rows.{first_rows, in_order, section_of, track_of}, Told.presented_of, declared.parts.Content.Content}
-use Rattle.presentation.{specs.{Printing.durations_of, Verifying.{greatest, longest_at, longest_of}}, proofs.Ending.all_filled}
-use Rattle.presentation.proofs.{Filling.length_in_order, FromMpd.is_told, Grids.{found, same_members, All-at}, Reached.none_within}
+use Rattle.live_meaning.specs.{Laws.{SectionsHaveOneMap, SectionsNeverFall}, Removal.half_more}
+use Rattle.live_meaning.proofs.Histories.{IsAllowed, IsFirst, none_each, told_none, accepted_hold, ranged, unmapped, Each, get_more}
+use Rattle.live_meaning.proofs.Histories.{forced, mapped, past_holds, sound}
+use Rattle.live_meaning.proofs.Orders.{listed_have, flat_have, behind_have, past_ordered, period_own, periods_are_listed_in_order}
+use Rattle.live_meaning.proofs.Orders.{steps_both, IsSoundIn, period_timed, presented_sound}
+use Rattle.presentation.specs.{declared.track.Section.Section, declared.track.Track.Track as Described, Counting.sections_of}
+use Rattle.presentation.specs.{Presented.{Presented, content_at, looked_at, start_of, listed_at}, declared.parts.Content.Content}
+use Rattle.presentation.specs.{Printing.durations_of, Verifying.{greatest, longest_at, longest_of}}
+use Rattle.mpd_presentation.specs.{PresentedLaws.SectionsArePeriods, Rows.{Row, first_rows, in_order, section_of, track_of}}
+use Rattle.mpd_presentation.specs.Told.{presented_of}
+use Rattle.mpd_presentation.proofs.{Ending.all_filled, FromMpd.is_told}
+use Rattle.presentation.proofs.{Filling.length_in_order, Grids.{found, same_members, All-at}, Reached.none_within}
 use Rattle.url_parts.specs.declared.address.Part.{Part}
 use Rattle.timeline.specs.Expansions.{Timing}
 use Rattle.hls_writer.specs.Finished.{rounded}
-use Rattle.followed.{specs.Durations.{durations, last_behind, told, told_behind, Last}, proofs.Sections.new_section}
-use Rattle.followed.proofs.Sections.{goes_on as told_goes_on, told_apart}
+use Rattle.followed.specs.Durations.{durations, last_behind, told, told_behind, Last}
+use Rattle.followed.proofs.Sections.{new_section, goes_on as told_goes_on, told_apart}
 
 found_at : (ids : List (List ℕ)) (k : ℕ) (x : List ℕ) → are_once ids ≡ true → slice_get ids k ≡ Some x
     → position_or_len (bytes_eq x) ids ≡ k

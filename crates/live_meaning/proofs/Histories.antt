@@ -1,28 +1,31 @@
 -- A state with an update more is the state of the history with that update, and what is so of accepted updates.
-use Rattle.std.proofs.{lemmas.List.{get_or-map, length-map, drop-map, drop-drop, drop-append-le, append-nil, append_assoc}, Common.{◌≡◌, ℕ}}
-use Rattle.std.proofs.Common.{zero, suc, ◌+◌, ◌≤◌, List, [], ◌∷◌, ◌++◌, map, length, drop, Option, Some, None, refl, sym, ◌∙◌, ap, subst}
-use Rattle.std.proofs.{Common.{arith, length-append, ℤ, Result, Ok, Bool, true, false, not, ◌<◌}, lemmas.Option.{same_Some, slice_get_read}}
-use Rattle.std.proofs.{lemmas.Option.{slice_get_within, slice_get-map}, lemmas.List.FromFn.get_or-map-range_with_len}
-use Rattle.std.proofs.{lemmas.List.FromFn.length-map-range_with_len, lemmas.List.Sums.fold-append, lemmas.Bool.ltb-false}
+use Rattle.std.proofs.lemmas.List.{get_or-map, length-map, drop-map, drop-drop, drop-append-le, append-nil, append_assoc}
+use Rattle.std.proofs.Common.{◌≡◌, ℕ, zero, suc, ◌+◌, ◌≤◌, List, [], ◌∷◌, ◌++◌, map, length, drop, Option, Some, None, refl, sym, ◌∙◌, ap}
+use Rattle.std.proofs.Common.{subst, arith, length-append, ℤ, Result, Ok, Bool, true, false, not, ◌<◌}
+use Rattle.std.proofs.lemmas.Option.{same_Some, slice_get_read, slice_get_within, slice_get-map}
+use Rattle.std.proofs.{lemmas.List.FromFn.{get_or-map-range_with_len, length-map-range_with_len}, lemmas.List.Sums.fold-append}
+use Rattle.std.proofs.lemmas.Bool.{ltb-false}
 use Rattle.std.specs.{Prelude.{option_map, slice_get, All, filter, flat_map}, List.{range_with_len, fold}}
 use Rattle.followed.specs.Durations.{Last, durations, last_behind, last_with, told, told_behind}
 use Rattle.followed.proofs.{KeptPlaces.{next_from_kept, next_is_first}, Sections.goes_on}
 use Rattle.presentation.specs.{Presented.{Following, looked_at, Presented, is_finished}, declared.fault.PresentationFault.PresentationFault}
-use Rattle.presentation.specs.{Told.presented_of, Counting.{sections_of, count_faults, range_faults}, Verifying.url_faults}
-use Rattle.live_meaning.specs.{Updates.{unit_of, mpd_of, Terms, Update, Refresh, Reset, Tick, Values, is_reset, now_of}, Segments.Kept}
-use Rattle.live_meaning.specs.{Segments.{Segment, place_behind, segments_of}, Removal.{first_kept, is_available, removed_of}}
+use Rattle.presentation.specs.{Counting.{sections_of, count_faults, range_faults}, Verifying.url_faults}
+use Rattle.mpd_presentation.specs.Told.{presented_of}
+use Rattle.live_meaning.specs.Updates.{unit_of, mpd_of, Terms, Update, Refresh, Reset, Tick, Values, is_reset, now_of}
+use Rattle.live_meaning.specs.{Segments.{Kept, Segment, place_behind, segments_of}, Removal.{first_kept, is_available, removed_of}}
 use Rattle.live_meaning.specs.Histories.{Common, Past, begun_past, begun_with, least_length, new_listed, past_after, pasts_after, Whole}
 use Rattle.live_meaning.specs.Histories.{after, begun_common, common_with, force_by, gone_on, no_past, past_of, whole_of}
 use Rattle.live_meaning.specs.States.{kept_and_new, removed_from, track_after, track_of, tracks_after, State, shown, state_of, state_with}
-use Rattle.live_meaning.specs.{States.{new_durations, Track}, Refusals.{Refusal, begun_by, begun_of, first_refusal_of, next_of, next_with}}
-use Rattle.live_meaning.specs.Refusals.{refusal_of, update_refusal, LongSegment, count_kept, over_in_track, urls_in, NotDynamic}
-use Rattle.live_meaning.specs.Refusals.{Presentation, clock_told, counts_kept, counts_listed, ended_told, first_refusals_of, first_told_by}
-use Rattle.live_meaning.specs.Refusals.{joint_told, long_told, mpd_told, refusal_behind, segments_told, told_by, told_if, refusals_of}
-use Rattle.live_meaning.specs.{Refusals.{urls_told, window_told}, Laws.{AcceptedAreAccepted, HistoriesBegin, HistoriesGoOn}}
-use Rattle.live_meaning.specs.Laws.{HistoriesRefuse, IsAccepted, with_accepted}
+use Rattle.live_meaning.specs.States.{new_durations, Track}
+use Rattle.live_meaning.specs.Refusals.{Refusal, begun_by, begun_of, first_refusal_of, next_of, next_with, refusal_of, update_refusal}
+use Rattle.live_meaning.specs.Refusals.{LongSegment, count_kept, over_in_track, urls_in, NotDynamic, Presentation, clock_told}
+use Rattle.live_meaning.specs.Refusals.{counts_kept, counts_listed, ended_told, first_refusals_of, first_told_by, joint_told, long_told}
+use Rattle.live_meaning.specs.Refusals.{mpd_told, refusal_behind, segments_told, told_by, told_if, refusals_of, urls_told, window_told}
+use Rattle.live_meaning.specs.Laws.{AcceptedAreAccepted, HistoriesBegin, HistoriesGoOn, HistoriesRefuse, IsAccepted, with_accepted}
 use Rattle.hls_writer.specs.Finished.{rounded}
 use Rattle.bridge_io.specs.Firsts.{first_of}
-use Rattle.presentation.proofs.{Ending.none_behind, Reached.none_first}
+use Rattle.presentation.proofs.Reached.{none_first}
+use Rattle.mpd_presentation.proofs.Ending.{none_behind}
 
 pub mapped : {A B : Type 0} (f : A → B) (o : Option A) (b : B) → option_map f o ≡ Some b → (a : A) × (o ≡ Some a) × (f a ≡ b)
 mapped f o b is = grind arith

@@ -1,25 +1,30 @@
 -- All segments that were listed stand in order, where each update lists its own in order, and those of one section lie in one Period.
 use Rattle.std.proofs.Common.{arith, ◌≡◌, ℕ, ◌+◌, ◌*◌, Bool, ℤ, List, [], ◌∷◌, map, length, Option, Some, None, Ok, refl, sym, ap, subst}
-use Rattle.std.proofs.{Common.{◌-◌, ◌≤◌, ◌<◌, zero, suc, get_or, ◌++◌, ◌∙◌}, lemmas.List.Elements.{All-nil, All-filter, All-from_recursion}}
-use Rattle.std.proofs.lemmas.{List.{Elements.{All-append, All-map, filter_passes}, append_assoc}, Simd.map-map, Option.same_Some}
-use Rattle.std.{proofs.lemmas.Bool.Decides.nat_tests, specs.{Prelude.{All, filter, unwrap_or, flat_map, slice_get}, List.AllByRecursion}}
-use Rattle.std.specs.{List.range_with_len, Option.option_map_or}
-use Rattle.exact_time.{specs.{Time.{Time, AreRising, IsAtMost, IsTime}, Laws.SumsAreFloors}, proofs.TimeOrder.IsAtMost-from_before}
-use Rattle.exact_time.proofs.TimeOrder.{before_then_at_most, before-true}
+use Rattle.std.proofs.Common.{◌-◌, ◌≤◌, ◌<◌, zero, suc, get_or, ◌++◌, ◌∙◌}
+use Rattle.std.proofs.lemmas.List.Elements.{All-nil, All-filter, All-from_recursion, All-append, All-map, filter_passes}
+use Rattle.std.proofs.{lemmas.List.append_assoc, lemmas.Simd.map-map, lemmas.Option.same_Some, lemmas.Bool.Decides.nat_tests}
+use Rattle.std.specs.{Prelude.{All, filter, unwrap_or, flat_map, slice_get}, List.{AllByRecursion, range_with_len}, Option.option_map_or}
+use Rattle.exact_time.specs.{Time.{Time, AreRising, IsAtMost, IsTime}, Laws.SumsAreFloors}
+use Rattle.exact_time.proofs.TimeOrder.{IsAtMost-from_before, before_then_at_most, before-true}
 use Rattle.mpd_levels.specs.Segments.{Segments}
-use Rattle.timeline.specs.{declared.{entry.{SEntry.SEntry, End.End}, names.Names.Names, window.Window.Window}, Expansions.Extent}
-use Rattle.timeline.specs.{Expansions.{SegmentTimeline, Timing, extents, numbered}, Limits.too_long, Listed.{expansion, instant_of}}
-use Rattle.timeline.{specs.Listed.is_listed, proofs.Rises.{ends_rise, no_step_from}}
+use Rattle.timeline.specs.{declared.entry.End.End, declared.names.Names.Names, declared.window.Window.Window}
+use Rattle.timeline.specs.{Expansions.{Extent, SegmentTimeline, Timing, extents, numbered}, Limits.too_long}
+use Rattle.timeline.specs.Listed.{expansion, instant_of, is_listed}
+use Rattle.mpd_entries.specs.declared.entry.SEntry.{SEntry}
+use Rattle.timeline.proofs.Rises.{ends_rise, no_step_from}
 use Rattle.presentation.specs.{declared.parts.Content.Content, Presented.{Presented, content_at, listed_at, listed_in, window_of, start_of}}
-use Rattle.presentation.{specs.{Scales.scale_of, Told.{presented_of, timeline_by}}, proofs.{Ending.all_have, FromMpd.is_told, Grids.All-at}}
-use Rattle.presentation.proofs.Pace.{IsSound, expansion_has, duration_sound, entries_sound}
-use Rattle.live_meaning.specs.{Updates.{Values, Refresh, Terms, Update, unit_of}, Laws.{DoesLast, PeriodsAreListedInOrder}}
-use Rattle.live_meaning.specs.{Laws.{IsListedInOrder, SectionsNeverDrift}, Segments.{Numbering, Segment, behind, id_at, is_later}}
-use Rattle.live_meaning.specs.{Segments.{listed_in_period, listed_of, place_behind, place_of, segment_with}, Histories.{Common, Whole}}
-use Rattle.live_meaning.specs.Histories.{all_of, begun_common, begun_with, common_with, gone_on, numbering_of, whole_of}
+use Rattle.presentation.proofs.Grids.{All-at}
+use Rattle.mpd_presentation.specs.{Scales.scale_of, Told.{presented_of, timeline_by}}
+use Rattle.mpd_presentation.proofs.{Ending.all_have, FromMpd.is_told, Pace.{IsSound, expansion_has, duration_sound, entries_sound}}
+use Rattle.live_meaning.specs.Updates.{Values, Refresh, Terms, Update, unit_of}
+use Rattle.live_meaning.specs.Laws.{DoesLast, PeriodsAreListedInOrder, IsListedInOrder, SectionsNeverDrift}
+use Rattle.live_meaning.specs.Segments.{Numbering, Segment, behind, id_at, is_later, listed_in_period, listed_of, place_behind, place_of}
+use Rattle.live_meaning.specs.Segments.{segment_with}
+use Rattle.live_meaning.specs.Histories.{Common, Whole, all_of, begun_common, begun_with, common_with, gone_on, numbering_of, whole_of}
 use Rattle.live_meaning.proofs.Histories.{whole_goes_on, holds, past_holds, Each, each_after, each_begun, last_goes_on, place_goes_on}
-use Rattle.followed.{specs.{Durations.{Last, last_behind, last_with}, Order.{InOrder, IsTimed}}, proofs.Sections.all_behind}
-use Rattle.followed.proofs.Sections.{later_in_order, order-append, section_is_in_order, apart_in_order, last_section, sections_sum}
+use Rattle.followed.specs.{Durations.{Last, last_behind, last_with}, Order.{InOrder, IsTimed}}
+use Rattle.followed.proofs.Sections.{all_behind, later_in_order, order-append, section_is_in_order, apart_in_order, last_section}
+use Rattle.followed.proofs.Sections.{sections_sum}
 
 skipped : (former : Time) (x : Timing) (xs : List Timing) → AllByRecursion (λ (x : Timing). IsTime x.end) xs → AreRising
     (former ∷ x.end ∷ map (λ y. y.end) xs) → AreRising (former ∷ map (λ y. y.end) xs)

@@ -1,31 +1,37 @@
 -- Each playlist of a followed track may take the place of the one before it, none is ever empty, and numbers grow with the updates.
 use Rattle.live_meaning.proofs.Histories.{get_drop, get_more, length-told, past_behind, stays_within, Each, kept_segments, ranged}
 use Rattle.live_meaning.proofs.Histories.{told-segments, track_goes_on, histories_refuse, mapped, sound, whole_goes_on, forced}
-use Rattle.live_meaning.{proofs.{Histories.accepted_hold, Accepted.place_is, Orders.{behind_have, listed_have}}, specs.Grown.media_from}
-use Rattle.live_meaning.specs.{Grown.{GrownIsLawful, IsLater}, Updates.{Terms, Update, unit_of, is_reset}, Segments.{Kept, Segment}}
-use Rattle.live_meaning.specs.Segments.{segments_of, Numbering, behind, id_at, listed_in_period, listed_of, place_behind}
-use Rattle.live_meaning.specs.{Removal.{is_available, removed_of}, Histories.{Common, Past, Whole, after, common_with, force_by, gone_on}}
-use Rattle.live_meaning.specs.Histories.{least_length, new_listed, past_after, pasts_after, whole_of, begun_common, numbering_of}
-use Rattle.live_meaning.specs.{States.{State, Track, shown, state_of, track_of, removed_from}, Refusals.{refusal_of, counts_listed}}
-use Rattle.live_meaning.specs.{Refusals.over_in_track, Playlists.{FollowedPlaylist, item_of, playlist_of, playlist_with}}
-use Rattle.live_meaning.specs.{Laws.{ReloadsAreLawful, media_of, segment_of, IsAccepted, NeverEmpty, NumbersStaySmall}, Known.Known}
-use Rattle.live_meaning.specs.Known.{ids_of, is_new, known_at, known_with, periods_of}
+use Rattle.live_meaning.proofs.{Histories.accepted_hold, Accepted.place_is, Orders.{behind_have, listed_have}}
+use Rattle.live_meaning.specs.{Grown.{media_from, GrownIsLawful, IsLater}, Updates.{Terms, Update, unit_of, is_reset}}
+use Rattle.live_meaning.specs.Segments.{Kept, Segment, segments_of, Numbering, behind, id_at, listed_in_period, listed_of, place_behind}
+use Rattle.live_meaning.specs.Removal.{is_available, removed_of}
+use Rattle.live_meaning.specs.Histories.{Common, Past, Whole, after, common_with, force_by, gone_on, least_length, new_listed, past_after}
+use Rattle.live_meaning.specs.Histories.{pasts_after, whole_of, begun_common, numbering_of}
+use Rattle.live_meaning.specs.States.{State, Track, shown, state_of, track_of, removed_from}
+use Rattle.live_meaning.specs.Refusals.{refusal_of, counts_listed, over_in_track}
+use Rattle.live_meaning.specs.Playlists.{FollowedPlaylist, item_of, playlist_of, playlist_with}
+use Rattle.live_meaning.specs.Laws.{ReloadsAreLawful, media_of, segment_of, IsAccepted, NeverEmpty, NumbersStaySmall}
+use Rattle.live_meaning.specs.Known.{Known, ids_of, is_new, known_at, known_with, periods_of}
 use Rattle.std.proofs.Common.{◌≡◌, ℕ, zero, suc, ◌+◌, ◌-◌, true, false, List, [], ◌∷◌, ◌++◌, drop, Some, refl, ap, arith, length-append}
-use Rattle.std.proofs.Common.{length-drop, ◌*◌, ◌^◌, ◌≤◌, map, length, sum, None, sym, ◌∙◌, ◌<◌, Bool, cond, not, filter, get_or, bytes_eq}
-use Rattle.std.proofs.{Common.{Option, subst}, lemmas.{Bool.Decides.nat_tests, List.{length-map, map-append, drop-map}, Simd.map-map}}
-use Rattle.std.proofs.lemmas.{List.Sums.{sum-map, count_by-le-length, length-filter, prefix_len-le-length, sum_by-cons}, Option.same_Some}
-use Rattle.std.proofs.{lemmas.{Option.slice_get-map, Nat.pow-add}, Math.Nat.{mul-le-mul_left, one-le-pow}}
-use Rattle.std.proofs.lemmas.List.{FromFn.length-map-range_with_len, Elements.{All-append, All-drop, filter_passes}, Concat.length-flat_map}
+use Rattle.std.proofs.Common.{length-drop, ◌*◌, ◌^◌, ◌≤◌, map, length, sum, None, sym, ◌∙◌, ◌<◌, Bool, cond, not, filter, get_or}
+use Rattle.std.proofs.{Common.{bytes_eq, Option, subst}, lemmas.Bool.Decides.nat_tests, lemmas.List.{length-map, map-append, drop-map}}
+use Rattle.std.proofs.lemmas.Simd.{map-map}
+use Rattle.std.proofs.lemmas.List.Sums.{sum-map, count_by-le-length, length-filter, prefix_len-le-length, sum_by-cons}
+use Rattle.std.proofs.{lemmas.Option.{same_Some, slice_get-map}, lemmas.Nat.pow-add, Math.Nat.{mul-le-mul_left, one-le-pow}}
+use Rattle.std.proofs.{lemmas.List.FromFn.length-map-range_with_len, lemmas.List.Elements.{All-append, All-drop, filter_passes}}
+use Rattle.std.proofs.lemmas.List.Concat.{length-flat_map}
 use Rattle.std.specs.{Prelude.{slice_get, option_map, sum_by, All, flat_map}, Result.result_ok, List.{position_or_len, range_with_len}}
 use Rattle.std.specs.Option.{option_map_or}
-use Rattle.hls_media.specs.declared.media.{Media.Media, MediaSegment.MediaSegment}
+use Rattle.hls_media.specs.{declared.media.Media.Media, declared.media.MediaSegment.MediaSegment}
 use Rattle.reload_law.specs.{Rules.{same_segment, same_section}, Laws.{IsInBoth, IsLawful, ReloadsItself, RulesAreSentences}}
-use Rattle.followed.{specs.Durations.{durations, last_behind, told, told_behind, Last}, proofs.KeptPlaces.{next_is_first, sum-scaled}}
-use Rattle.followed.proofs.Sections.{goes_on}
+use Rattle.followed.specs.Durations.{durations, last_behind, told, told_behind, Last}
+use Rattle.followed.proofs.{KeptPlaces.{next_is_first, sum-scaled}, Sections.goes_on}
 use Rattle.presentation.specs.Presented.{Presented, is_finished, Following, listed_at, start_of, whole_window, window_at, window_of}
 use Rattle.presentation.specs.Counting.{count_faults, is_over, limit_faults, listed_count, sections_of, track_faults, tracks_of}
-use Rattle.presentation.specs.{Counting.{section_faults, whole_track_faults}, PresentedLaws.{PresentedAreFew, PresentedAreFollowed}}
-use Rattle.presentation.proofs.{Ending.none_behind, Reached.{all_reached, none_first, none_within}, Tracks.all_counted}
+use Rattle.presentation.specs.Counting.{section_faults, whole_track_faults}
+use Rattle.mpd_presentation.specs.PresentedLaws.{PresentedAreFew, PresentedAreFollowed}
+use Rattle.presentation.proofs.{Reached.{all_reached, none_first, none_within}, Tracks.all_counted}
+use Rattle.mpd_presentation.proofs.Ending.{none_behind}
 use Rattle.timeline.specs.{Expansions.Timing, Listed.{expansion, is_listed}}
 
 -- ---- lists that grow

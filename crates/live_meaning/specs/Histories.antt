@@ -1,11 +1,12 @@
 -- What a history of accepted updates leaves, with all segments that it ever listed.
-use Rattle.std.specs.Prelude.{ℕ, ◌+◌, ℤ, pos, List, [], ◌∷◌, ◌++◌, map, slice_get, Option, Some, None, option_map, unwrap_or, if◌then◌else◌}
-use Rattle.std.specs.{Prelude.{Result, Ok}, List.fold, Option.option_map_or, Result.result_ok}
+use Rattle.std.specs.Prelude.{ℕ, ◌+◌, ℤ, pos, List, [], ◌∷◌, ◌++◌, map, slice_get, Option, Some, None, option_map, unwrap_or}
+use Rattle.std.specs.{Prelude.{if◌then◌else◌, Result, Ok}, List.fold, Option.option_map_or, Result.result_ok}
 use Rattle.presentation.specs.{declared.fault.PresentationFault.PresentationFault, Counting.tracks_of, Presented.{Presented, looked_at}}
-use Rattle.presentation.specs.{Told.presented_of, Verifying.{greatest, longest_of}}
-use Rattle.live_meaning.specs.{Updates.{Values, Update, Refresh, Reset, Tick, now_of, mpd_of, is_reset, Terms, unit_of}, Segments.Numbering}
-use Rattle.live_meaning.specs.{Segments.{Segment, behind, listed_of, place_behind}, Known.{Known, ids_of, known_with}, Removal.first_kept}
-use Rattle.live_meaning.specs.Removal.{target_of, three_targets}
+use Rattle.presentation.specs.Verifying.{greatest, longest_of}
+use Rattle.mpd_presentation.specs.Told.{presented_of}
+use Rattle.live_meaning.specs.Updates.{Values, Update, Refresh, Reset, Tick, now_of, mpd_of, is_reset, Terms, unit_of}
+use Rattle.live_meaning.specs.{Segments.{Numbering, Segment, behind, listed_of, place_behind}, Known.{Known, ids_of, known_with}}
+use Rattle.live_meaning.specs.Removal.{first_kept, target_of, three_targets}
 use Rattle.followed.specs.Durations.{last_behind, told}
 
 -- what a history leaves beside its segments

@@ -1,19 +1,19 @@
 -- What holds of histories.
-use Rattle.std.specs.Prelude.{◌≡◌, ℕ, ℤ, ◌+◌, ◌-◌, ◌*◌, ◌^◌, ◌<◌, ◌≤◌, All, List, [], ◌∷◌, ◌++◌, filter, length, map, sum, take, slice_get}
-use Rattle.std.specs.{Prelude.{Option, Some, None, Ok}, List.fold}
+use Rattle.std.specs.Prelude.{◌≡◌, ℕ, ℤ, ◌+◌, ◌-◌, ◌*◌, ◌^◌, ◌<◌, ◌≤◌, All, List, [], ◌∷◌, ◌++◌, filter, length, map, sum, take}
+use Rattle.std.specs.{Prelude.{slice_get, Option, Some, None, Ok}, List.fold}
 use Rattle.exact_time.specs.{Time.{AreRising, IsAtMost, IsTime, Time, difference}, Floor.floor_in}
 use Rattle.hls_media.specs.{declared.media.Media.Media, declared.media.MediaSegment.MediaSegment}
 use Rattle.hls_writer.specs.{Finished.rounded, Playlists.Item}
 use Rattle.reload_law.specs.Rules.{lawful}
-use Rattle.mpd_text.specs.Trees.{Element}
+use Rattle.mpd_tree.specs.Trees.{Element}
 use Rattle.mpd_rules.specs.Rules.{typed_mpd_of}
 use Rattle.timeline.specs.Expansions.{Timing}
 use Rattle.presentation.specs.Presented.{Presented, listed_at}
 use Rattle.followed.specs.{Durations.{durations, ends, is_in, told}, Order.InOrder}
-use Rattle.live_meaning.specs.{Updates.{Update, Refresh, Terms, Values, mpd_of, unit_of}, Segments.{Numbering, Segment, id_at, listed_of}}
-use Rattle.live_meaning.specs.{Segments.{place_of, segments_of}, Histories.{Common, Whole, all_of, numbering_of, whole_of}, States.State}
-use Rattle.live_meaning.specs.{States.{Track, state_of}, Refusals.{Refusal, begun_of, next_of, refusal_of, update_refusal}}
-use Rattle.live_meaning.specs.Playlists.{FollowedPlaylist, playlist_of}
+use Rattle.live_meaning.specs.Updates.{Update, Refresh, Terms, Values, mpd_of, unit_of}
+use Rattle.live_meaning.specs.Segments.{Numbering, Segment, id_at, listed_of, place_of, segments_of}
+use Rattle.live_meaning.specs.{Histories.{Common, Whole, all_of, numbering_of, whole_of}, States.{State, Track, state_of}}
+use Rattle.live_meaning.specs.{Refusals.{Refusal, begun_of, next_of, refusal_of, update_refusal}, Playlists.{FollowedPlaylist, playlist_of}}
 
 -- ---- histories of accepted updates
 

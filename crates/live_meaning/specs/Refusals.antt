@@ -8,14 +8,16 @@ use Rattle.mpd_rules.specs.Laws.{are_once}
 use Rattle.timeline.specs.{Expansions.{Extent, Timing}, Faults.is_apart, Listed.expansion}
 use Rattle.presentation.specs.{declared.fault.PresentationFault.PresentationFault, declared.fault.PresentationFault.TheVariants.Url}
 use Rattle.presentation.specs.{declared.track.Track.Track as Described, Counting.{count_faults, range_faults, sections_of, tracks_of}}
-use Rattle.presentation.specs.{Presented.{Presented, content_at, is_finished, listed_at, start_of, window_of}, Rows.{is_of, same_language}}
-use Rattle.presentation.specs.{Told.presented_of, Verifying.{part_faults, url_faults}}
+use Rattle.presentation.specs.{Presented.{Presented, content_at, is_finished, listed_at, start_of, window_of}, Order.{is_of, same_language}}
+use Rattle.presentation.specs.Verifying.{part_faults, url_faults}
+use Rattle.mpd_presentation.specs.Told.{presented_of}
 use Rattle.hls_writer.specs.Finished.{rounded}
-use Rattle.live_meaning.specs.{Updates.{Values, Update, Refresh, Reset, Tick, is_reset, mpd_of, now_of, Terms, unit_of}, Segments.Kept}
-use Rattle.live_meaning.specs.{Segments.{Segment, id_at, is_later, place_of, segments_of, times_of}, Known.{Known, all_same, attributes_at}}
-use Rattle.live_meaning.specs.{Known.{goes_on, ids_of, known_by}, Histories.{Common, availability_start_of, begun_common, begun_with}}
-use Rattle.live_meaning.specs.{Histories.{common_with, force_by}, States.{State, Track, kept_and_new, new_count, new_durations, new_of}}
-use Rattle.live_meaning.specs.States.{removed_from, shown, state_of, state_with}
+use Rattle.live_meaning.specs.Updates.{Values, Update, Refresh, Reset, Tick, is_reset, mpd_of, now_of, Terms, unit_of}
+use Rattle.live_meaning.specs.Segments.{Kept, Segment, id_at, is_later, place_of, segments_of, times_of}
+use Rattle.live_meaning.specs.Known.{Known, all_same, attributes_at, goes_on, ids_of, known_by}
+use Rattle.live_meaning.specs.Histories.{Common, availability_start_of, begun_common, begun_with, common_with, force_by}
+use Rattle.live_meaning.specs.States.{State, Track, kept_and_new, new_count, new_durations, new_of, removed_from, shown, state_of}
+use Rattle.live_meaning.specs.States.{state_with}
 use Rattle.followed.specs.Durations.{Last, is_in}
 
 pub data Refusal : Type 0 where

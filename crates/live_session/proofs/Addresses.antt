@@ -7,15 +7,16 @@ use Rattle.std.proofs.lemmas.List.Elements.{All-append, All-cons, All-head, All-
 use Rattle.std.specs.{Prelude.{true, slice_get}, List.range_with_len, Option.option_map_or}
 use Rattle.bridge_io.specs.Firsts.{first_of}
 use Rattle.template_ids.specs.Templates.{named}
-use Rattle.timeline.specs.{Expansions.{SegmentTimeline, Timing}, declared.names.Names.Names, declared.names.RefPart.RefPart}
+use Rattle.timeline.specs.{Expansions.{SegmentTimeline, Timing}, declared.names.Names.Names}
 use Rattle.timeline.specs.Names.{listed_part, own_part, part_at, part_of, referred}
+use Rattle.mpd_entries.specs.declared.ref_part.RefPart.{RefPart}
 use Rattle.url_parts.specs.{Addresses.resolve, declared.address.Part.Part, declared.fault.UrlFault.TheVariants.Refused}
 use Rattle.url_parts.specs.{declared.fault.UrlFault.UrlFault, declared.range.Range.Range}
 use Rattle.presentation.specs.{declared.fault.PresentationFault.PresentationFault, declared.parts.Content.Content, Counting.sections_of}
 use Rattle.presentation.specs.{Presented.{Presented, content_at, listed_at}, Verifying.{fault_at, part_fault, part_faults}}
-use Rattle.live_meaning.specs.{Segments.{Segment, id_at, is_later, place_of}, Known.ids_of, Histories.{Common, availability_start_of}}
-use Rattle.live_meaning.specs.{Histories.numbering_of, States.{Track, new_count, new_of}, Refusals.{Presentation, Refusal, is_of_address}}
-use Rattle.live_meaning.specs.Refusals.{makes_segments, urls_in, urls_told}
+use Rattle.live_meaning.specs.{Segments.{Segment, id_at, is_later, place_of}, Known.ids_of}
+use Rattle.live_meaning.specs.{Histories.{Common, availability_start_of, numbering_of}, States.{Track, new_count, new_of}}
+use Rattle.live_meaning.specs.Refusals.{Presentation, Refusal, is_of_address, makes_segments, urls_in, urls_told}
 use Rattle.presentation.proofs.Grids.{All-at}
 use Rattle.live_judge.proofs.{Contents.length-new, New.new_is}
 use Rattle.live_session.specs.New.{faults_by, new_all, new_faults_in, new_faults_of, new_in, new_timings}

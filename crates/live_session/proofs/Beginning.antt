@@ -3,43 +3,45 @@ use Rattle.presentation.specs.declared.fault.PresentationFault.TheVariants as pr
 use Rattle.live_judge.specs.declared.fault.RefreshFault.TheVariants as faults
 use Rattle.std.proofs.Common.{◌≡◌, ℕ, zero, suc, ◌+◌, ◌-◌, ◌≤◌, ◌<◌, ℤ, Bool, true, false, not, nat_lt, ◌==◌, ◌&&◌, List, [], ◌∷◌, ◌++◌}
 use Rattle.std.proofs.Common.{map, flat_map, filter, length, sum, All, Option, Some, None, Result, Ok, Err, refl, sym, ◌∙◌, ap, subst}
-use Rattle.std.{proofs.Common.{arith, pos, replicate}, proofs.lemmas.Bool.{le-ltb, lt-ltb, ltb-false, or_parts}}
-use Rattle.std.{proofs.lemmas.List.Concat.length-flat_map, proofs.lemmas.List.Elements.{All-nil, All-cons, All-append, All-head}}
-use Rattle.std.{proofs.lemmas.List.Elements.All-replicate, proofs.lemmas.List.Sums.{sum-map, sum_by-cons}, proofs.lemmas.List.length-map}
-use Rattle.std.{proofs.lemmas.List.map-append, proofs.lemmas.List.FromFn.fill_by_all, proofs.lemmas.Option.get_or_from_slice_get}
-use Rattle.std.{proofs.lemmas.Simd.map-map, specs.Prelude.{IfSome, replicate, sum_by, if◌then◌else◌, option_map, slice_get, unwrap_or}}
-use Rattle.std.{specs.List.range_with_len, specs.Option.option_map_or}
+use Rattle.std.proofs.{Common.{arith, pos, replicate}, lemmas.Bool.{le-ltb, lt-ltb, ltb-false, or_parts}}
+use Rattle.std.proofs.{lemmas.List.Concat.length-flat_map, lemmas.List.Elements.{All-nil, All-cons, All-append, All-head, All-replicate}}
+use Rattle.std.proofs.{lemmas.List.Sums.{sum-map, sum_by-cons}, lemmas.List.{length-map, map-append}, lemmas.List.FromFn.fill_by_all}
+use Rattle.std.proofs.{lemmas.Option.get_or_from_slice_get, lemmas.Simd.map-map}
+use Rattle.std.specs.{Prelude.{IfSome, replicate, sum_by, if◌then◌else◌, option_map, slice_get, unwrap_or}, List.range_with_len}
+use Rattle.std.specs.Option.{option_map_or}
 use Rattle.bridge_io.specs.Firsts.{first_of}
-use Rattle.timeline.{specs.Expansions.Timing, specs.declared.fault.TimeFault.TimeFault, specs.declared.window.Window.Window}
+use Rattle.timeline.specs.{Expansions.Timing, declared.fault.TimeFault.TimeFault, declared.window.Window.Window}
 use Rattle.timeline.specs.Listed.{IsReached, answered_count}
-use Rattle.presentation.{specs.declared.fault.PresentationFault.PresentationFault, specs.declared.parts.Content.Content}
+use Rattle.presentation.specs.{declared.fault.PresentationFault.PresentationFault, declared.parts.Content.Content}
 use Rattle.presentation.specs.Counting.{count_at, count_faults, count_of_all, count_of_track, counted, faults_of_count, is_over}
-use Rattle.presentation.specs.Counting.{limit_faults, listed_count, number_in, place_at, refusal, section_faults, sections_of, track_faults}
-use Rattle.presentation.{specs.Counting.{tracks_of, unless_any, whole_track_faults}, specs.Presented.{Presented, content_at, is_finished}}
-use Rattle.presentation.{specs.Presented.{listed_at, listed_in, window_of, looked_at}, specs.Printing.IsCounted, specs.Told.presented_of}
-use Rattle.presentation.{specs.Verifying.{part_faults, url_faults, url_faults_at, url_faults_of}, specs.PresentedLaws.PresentedAreFew}
-use Rattle.presentation.{specs.PresentedLaws.{PresentedAreFollowed, SectionsArePeriods}, proofs.Reached.{all_reached, none_later}}
-use Rattle.presentation.{proofs.Reached.none_first, proofs.Ending.none_behind, proofs.Grids.All-at}
-use Rattle.live_meaning.{specs.Updates.{Terms, Values, unit_of, Refresh}, specs.Segments.{Segment, listed_of, listed_in_period, id_at}}
-use Rattle.live_meaning.{specs.States.{Track, new_count, shown, track_of}, specs.Histories.{Common, begun_common, begun_past, begun_with}}
-use Rattle.live_meaning.{specs.Histories.{numbering_of, availability_start_of}, specs.Refusals.{Presentation, Refusal, Window as Windowed}}
-use Rattle.live_meaning.specs.Refusals.{begun_of, counts_listed, first_appended_by, first_refusal_of, first_told_by, over_in_all}
-use Rattle.live_meaning.{specs.Refusals.{over_in_track, told_if, urls_in, urls_told, window_told, NotDynamic, ids_in}, specs.Known.Known}
-use Rattle.live_meaning.{specs.Known.{ids_of, known_at, known_with, periods_of}, specs.Playlists.{item_of, playlist_with}}
-use Rattle.live_meaning.{specs.Laws.{HistoriesBegin, IsTyped, NeverEmpty, NumbersStaySmall, Shows}, proofs.Histories.{negated, none_mapped}}
-use Rattle.live_meaning.{proofs.Histories.told_none, proofs.Accepted.id_there, proofs.Playlists.few_known}
-use Rattle.live_judge.{specs.declared.fault.RefreshFault.RefreshFault, specs.Faults.{Tells, of_presentation, told}}
-use Rattle.live_judge.{specs.declared.standing.Standing.Standing, specs.Known.StandsAt, specs.declared.track.LiveTrack.LiveTrack}
-use Rattle.live_judge.{specs.FirstStates.FirstStatesAreSound, specs.Shown.{common_shown, in_force, state_shown, track_shown}}
-use Rattle.live_judge.{specs.SoundGoesOn.{IsKept, NumbersFit}, proofs.Firsts.{IsNoneBefore, first_here, none_at_all, none_here, none_told}}
-use Rattle.live_judge.{proofs.Firsts.{none_yet, told_first}, proofs.FirstStates.all_new, proofs.Places.place_there}
+use Rattle.presentation.specs.Counting.{limit_faults, listed_count, number_in, place_at, refusal, section_faults, sections_of}
+use Rattle.presentation.specs.Counting.{track_faults, tracks_of, unless_any, whole_track_faults}
+use Rattle.presentation.specs.Presented.{Presented, content_at, is_finished, listed_at, listed_in, window_of, looked_at}
+use Rattle.presentation.specs.{Printing.IsCounted, Verifying.{part_faults, url_faults, url_faults_at, url_faults_of}}
+use Rattle.mpd_presentation.specs.{Told.presented_of, PresentedLaws.{PresentedAreFew, PresentedAreFollowed, SectionsArePeriods}}
+use Rattle.presentation.proofs.{Reached.{all_reached, none_later, none_first}, Grids.All-at}
+use Rattle.mpd_presentation.proofs.Ending.{none_behind}
+use Rattle.live_meaning.specs.{Updates.{Terms, Values, unit_of, Refresh}, Segments.{Segment, listed_of, listed_in_period, id_at}}
+use Rattle.live_meaning.specs.States.{Track, new_count, shown, track_of}
+use Rattle.live_meaning.specs.Histories.{Common, begun_common, begun_past, begun_with, numbering_of, availability_start_of}
+use Rattle.live_meaning.specs.Refusals.{Presentation, Refusal, Window as Windowed, begun_of, counts_listed, first_appended_by}
+use Rattle.live_meaning.specs.Refusals.{first_refusal_of, first_told_by, over_in_all, over_in_track, told_if, urls_in, urls_told}
+use Rattle.live_meaning.specs.{Refusals.{window_told, NotDynamic, ids_in}, Known.{Known, ids_of, known_at, known_with, periods_of}}
+use Rattle.live_meaning.specs.{Playlists.{item_of, playlist_with}, Laws.{HistoriesBegin, IsTyped, NeverEmpty, NumbersStaySmall, Shows}}
+use Rattle.live_meaning.proofs.{Histories.{negated, none_mapped, told_none}, Accepted.id_there, Playlists.few_known}
+use Rattle.live_judge.specs.{declared.fault.RefreshFault.RefreshFault, Faults.{Tells, of_presentation, told}}
+use Rattle.live_judge.specs.{declared.standing.Standing.Standing, Known.StandsAt, declared.track.LiveTrack.LiveTrack}
+use Rattle.live_judge.specs.{FirstStates.FirstStatesAreSound, Shown.{common_shown, in_force, state_shown, track_shown}}
+use Rattle.live_judge.specs.SoundGoesOn.{IsKept, NumbersFit}
+use Rattle.live_judge.proofs.Firsts.{IsNoneBefore, first_here, none_at_all, none_here, none_told, none_yet, told_first}
+use Rattle.live_judge.proofs.{FirstStates.all_new, Places.place_there}
 use Rattle.live_session.specs.Begun.{IsUnbegun, empty_tracks, first_judged, AreFirst, IsBegunBy, IsFirst, IsFirstMpd, IsFirstStanding}
-use Rattle.live_session.{specs.Growth.{tracks_grown, grown}, specs.Kept.{empty_track, AreSideBySide}, specs.Making.{AreUnmade, AreMade}}
-use Rattle.live_session.{specs.Making.{IsMakeable, all_kept}, specs.Sessions.{CountsRefused, IsSession}}
-use Rattle.live_session.{specs.declared.made.MadeTrack.MadeTrack, specs.declared.maker.Maker.Maker, specs.New.{joins, new_all, numbers_of}}
-use Rattle.live_session.{specs.New.shown_by, specs.Written.{AreDated, IsDated}, proofs.Addresses.{all_flat, same_over, urls_make}}
-use Rattle.live_session.{proofs.Refusing.{some_as, told_as}, proofs.Sections.filter_all, proofs.Accepting.grown_dated}
-use Rattle.live_session.{proofs.Growing.{at_all, mapped_at}, proofs.Presenting.looked_same}
+use Rattle.live_session.specs.{Growth.{tracks_grown, grown}, Kept.{empty_track, AreSideBySide}}
+use Rattle.live_session.specs.{Making.{AreUnmade, AreMade, IsMakeable, all_kept}, Sessions.{CountsRefused, IsSession}}
+use Rattle.live_session.specs.{declared.made.MadeTrack.MadeTrack, declared.maker.Maker.Maker, New.{joins, new_all, numbers_of, shown_by}}
+use Rattle.live_session.specs.Written.{AreDated, IsDated}
+use Rattle.live_session.proofs.{Addresses.{all_flat, same_over, urls_make}, Refusing.{some_as, told_as}, Sections.filter_all}
+use Rattle.live_session.proofs.{Accepting.grown_dated, Growing.{at_all, mapped_at}, Presenting.looked_same}
 use Rattle.mpd_rules.specs.Laws.{PeriodIdsDiffer, are_once}
 
 -- ---- faults of counts

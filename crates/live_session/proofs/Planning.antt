@@ -1,20 +1,24 @@
 -- What is planned of an update, and why it is refused.
 use Rattle.std.proofs.Common.{◌≡◌, false, true, ℕ, ◌+◌, ◌-◌, ℤ, List, [], ◌++◌, map, length, None, Result, Ok, Err, refl, sym, ◌∙◌, ap}
-use Rattle.std.{proofs.Common.{subst, inl, inr, arith}, proofs.lemmas.List.{length-map, nil_from_length}, specs.Prelude.MatchResult}
-use Rattle.std.specs.List.{range_with_len}
+use Rattle.std.proofs.{Common.{subst, inl, inr, arith}, lemmas.List.{length-map, nil_from_length}}
+use Rattle.std.specs.{Prelude.MatchResult, List.range_with_len}
 use Rattle.bridge_io.specs.Firsts.{first_of}
-use Rattle.presentation.{specs.Presented.{Presented, is_finished, looked_at}, proofs.Ending.none_behind, proofs.Reached.none_first}
-use Rattle.live_meaning.{specs.Updates.{Update, is_reset, mpd_of, now_of}, specs.Known.{ids_of, known_at}, specs.Histories.published_by}
-use Rattle.live_meaning.{specs.States.State, specs.Refusals.{Ended, appended_by, clock_told, ended_told, ids_in, makes_segments, urls_told}}
+use Rattle.presentation.specs.Presented.{Presented, is_finished, looked_at}
+use Rattle.presentation.proofs.Reached.{none_first}
+use Rattle.mpd_presentation.proofs.Ending.{none_behind}
+use Rattle.live_meaning.specs.{Updates.{Update, is_reset, mpd_of, now_of}, Known.{ids_of, known_at}, Histories.published_by, States.State}
+use Rattle.live_meaning.specs.Refusals.{Ended, appended_by, clock_told, ended_told, ids_in, makes_segments, urls_told}
 use Rattle.live_meaning.proofs.Histories.{told_none}
-use Rattle.live_judge.{specs.declared.coming.Coming.Coming, specs.declared.coming.Next.Next, specs.declared.fault.RefreshFault.RefreshFault}
-use Rattle.live_judge.{specs.declared.standing.Standing.Standing, specs.declared.track.LiveTrack.LiveTrack, specs.Known.StandsAt}
-use Rattle.live_judge.{specs.Known.known_shown, specs.Coming.{IsJoined, IsNext, coming_of, p_of, timed_told, told_before, update_of}}
-use Rattle.live_judge.{specs.Faults.Tells, specs.Shown.{common_shown, in_force, state_shown}, proofs.Listing.mpd_at}
-use Rattle.live_session.{specs.declared.change.Plan.Plan, specs.Changes.{IsPlan, IsPlanOf, IsPresented, IsRefused, IsUnplanned, first_new}}
-use Rattle.live_session.{specs.Changes.{new_in_all, shown_in}, proofs.NewTracks.{resets_at, comes_same, known_are, seen as seen_all}}
-use Rattle.live_session.{proofs.Addresses.urls_make, proofs.Refusing.{appended_new, now_at, refused_early, refused_judged, refused_made}}
-use Rattle.live_session.proofs.Refusing.{refused_there, refused_wanting}
+use Rattle.live_judge.specs.{declared.coming.Coming.Coming, declared.coming.Next.Next, declared.fault.RefreshFault.RefreshFault}
+use Rattle.live_judge.specs.{declared.standing.Standing.Standing, declared.track.LiveTrack.LiveTrack, Known.{StandsAt, known_shown}}
+use Rattle.live_judge.specs.{Coming.{IsJoined, IsNext, coming_of, p_of, timed_told, told_before, update_of}, Faults.Tells}
+use Rattle.live_judge.specs.Shown.{common_shown, in_force, state_shown}
+use Rattle.live_judge.proofs.Listing.{mpd_at}
+use Rattle.live_session.specs.declared.change.Plan.{Plan}
+use Rattle.live_session.specs.Changes.{IsPlan, IsPlanOf, IsPresented, IsRefused, IsUnplanned, first_new, new_in_all, shown_in}
+use Rattle.live_session.proofs.{NewTracks.{resets_at, comes_same, known_are, seen as seen_all}, Addresses.urls_make}
+use Rattle.live_session.proofs.Refusing.{appended_new, now_at, refused_early, refused_judged, refused_made, refused_there}
+use Rattle.live_session.proofs.Refusing.{refused_wanting}
 
 abbrev IsTimely : Standing → ℤ → Type 0
 IsTimely s now = ended_told (common_shown s) ++ clock_told (common_shown s) now ≡ []

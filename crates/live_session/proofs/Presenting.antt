@@ -2,11 +2,12 @@
 use Rattle.live_judge.specs.declared.coming.Coming.TheVariants as comes
 use Rattle.std.proofs.Common.{◌≡◌, ℕ, ℤ, List, pos, Bool, true, false, Option, Some, None, Ok, Err, refl, sym, ◌∙◌, ap}
 use Rattle.std.specs.Prelude.{IfSome, option_map, unwrap_or, if◌then◌else◌}
-use Rattle.presentation.specs.{declared.fault.PresentationFault.PresentationFault, Counting.refusal, Presented.{Following, Presented}}
-use Rattle.presentation.specs.{Presented.{at_instant, looked_at}, PresentedLaws.PresentedAreFollowed, Told.{following_of, presented_of}}
+use Rattle.presentation.specs.{declared.fault.PresentationFault.PresentationFault, Counting.refusal}
+use Rattle.presentation.specs.Presented.{Following, Presented, at_instant, looked_at}
+use Rattle.mpd_presentation.specs.{PresentedLaws.PresentedAreFollowed, Told.{following_of, presented_of}}
 use Rattle.live_meaning.specs.{Updates.{Values, mpd_of}, Histories.force_by, Refusals.Presentation}
-use Rattle.live_judge.specs.{declared.coming.Coming.Coming, declared.standing.Standing.Standing, Coming.update_of, Faults.of_presentation}
-use Rattle.live_judge.specs.{Faults.told, Shown.{common_shown, in_force}}
+use Rattle.live_judge.specs.{declared.coming.Coming.Coming, declared.standing.Standing.Standing, Coming.update_of}
+use Rattle.live_judge.specs.{Faults.{of_presentation, told}, Shown.{common_shown, in_force}}
 use Rattle.live_session.specs.Changes.{IsPresented, IsUnpresented, force_of}
 use Rattle.live_session.proofs.Refusing.{some_as, told_as}
 

@@ -2,10 +2,11 @@
 use Rattle.std.specs.Prelude.{◌≡◌, ℕ, ◌+◌, ◌<◌, ◌≤◌, ℤ, pos, not, All, List, [], ◌∷◌, ◌++◌, length, map, replicate, unwrap_or, Some, Ok}
 use Rattle.std.specs.Prelude.{Err, IfSome}
 use Rattle.iso_time.specs.Instant.{IsReadable}
-use Rattle.presentation.specs.{Counting.count_faults, Presented.{Presented, looked_at}, Told.presented_of}
+use Rattle.presentation.specs.{Counting.count_faults, Presented.{Presented, looked_at}}
+use Rattle.mpd_presentation.specs.Told.{presented_of}
 use Rattle.live_meaning.specs.{Updates.{Refresh, Terms, Values}, Segments.{id_at, place_of}, Known.{ids_of, known_with}}
 use Rattle.live_meaning.specs.{Histories.{Common, availability_start_of, begun_common}, States.{State, Track, new_count}}
-use Rattle.live_meaning.specs.{Refusals.{NotDynamic, Presentation, Refusal, begun_of, counts_listed, first_appended_by, ids_in, told_if}}
+use Rattle.live_meaning.specs.Refusals.{NotDynamic, Presentation, Refusal, begun_of, counts_listed, first_appended_by, ids_in, told_if}
 use Rattle.live_meaning.specs.{Refusals.{urls_told, window_told}, Laws.{IsTyped, Shows}}
 use Rattle.live_judge.specs.{declared.fault.RefreshFault.RefreshFault, declared.standing.Standing.Standing}
 use Rattle.live_judge.specs.{declared.track.LiveTrack.LiveTrack, Faults.told, Known.StandsAt, Shown.{common_shown, track_shown}}

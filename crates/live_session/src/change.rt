@@ -28,7 +28,8 @@ use iso_time::Instant;
 use live_judge::{
     Coming, KnownPeriod, KnownPeriods, LiveTrack, Next, RefreshFault, Standing, periods_from,
 };
-use presentation::{Presentation, presentations_show_their_mpd};
+use mpd_presentation::{from_mpd, presentations_show_their_mpd};
+use presentation::Presentation;
 use std::alloc::Global;
 
 /// What is made of an update before anything is changed.
@@ -64,7 +65,7 @@ pub(crate) fn presented(
 {
     presentations_show_their_mpd();
     match coming.mpd() {
-        Some(mpd) => Ok(Some(Presentation::from_mpd(alloc, mpd, &standing.base, Some(now))?)),
+        Some(mpd) => Ok(Some(from_mpd(alloc, mpd, &standing.base, Some(now))?)),
         None => Ok(None),
     }
 }

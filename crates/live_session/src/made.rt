@@ -3,7 +3,7 @@ use hls_writer::MediaItem;
 use live_judge::Fact;
 
 /// A segment that was made, and isn't kept yet.
-#[derive(Debug, Drop)]
+#[derive(Drop)]
 pub struct Made {
     /// What is written of it.
     pub item: MediaItem,
@@ -12,7 +12,7 @@ pub struct Made {
 }
 
 /// The segments that were made of a track.
-#[derive(Debug, Drop)]
+#[derive(Drop)]
 pub(crate) struct MadeTrack {
     pub(crate) segments: Vec<Made>,
 }

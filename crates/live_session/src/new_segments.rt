@@ -18,7 +18,7 @@ use timeline::{Cursor, ListFault, Listing, Runs, Segment, Window};
 /// The new segments of a track in a section, each made when it is asked for, with the duration that is printed of it.
 ///
 /// In a contract it is the segments with their names, and the times and printed durations of those that are left.
-#[derive(Debug, Drop)]
+#[derive(Drop)]
 pub(crate) struct NewSegments<'a> {
     listing: Listing<'a>,
     rounder: Rounder,

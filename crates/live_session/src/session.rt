@@ -32,9 +32,10 @@ use live_judge::{
     Coming, LiveTrack, RefreshFault, Standing, accepted_states_stay_sound, first_states_are_sound,
 };
 use live_meaning::{histories_go_on, playlists_are_never_empty};
+use mpd_presentation::{from_mpd, presentations_show_their_mpd};
 use mpd_rules::Mpd;
 use mpd_rules::laws::period_ids_differ;
-use presentation::{Presentation, presentations_show_their_mpd};
+use presentation::Presentation;
 use std::alloc::Global;
 use std::marker::Model;
 use url_parts::Base;
@@ -64,7 +65,7 @@ impl Model for Session {
 }
 
 /// How many segments an accepted update appended, of all tracks.
-#[derive(Clone, Copy, Debug, PartialEq, Eq)]
+#[derive(Clone, Copy, PartialEq, Eq)]
 pub struct Appended(pub u64);
 
 impl Session {
@@ -92,7 +93,7 @@ impl Session {
     {
         period_ids_differ();
         presentations_show_their_mpd();
-        let opened = Presentation::from_mpd(alloc, mpd, base, Some(now))?;
+        let opened = from_mpd(alloc, mpd, base, Some(now))?;
         check_first(mpd, &opened)?;
         Session::begun(alloc, mpd, base, now, digits, opened, steps)
     }

@@ -1,5 +1,5 @@
 /// What differs first of two presentations.
-#[derive(Clone, Copy, Debug, PartialEq, Eq)]
+#[derive(Clone, Copy, PartialEq, Eq)]
 pub enum Aspect {
     /// How many sections there are.
     Sections,
@@ -20,7 +20,7 @@ pub enum Aspect {
 }
 
 /// The first place where two presentations differ. A number that says nothing of the aspect is 0.
-#[derive(Clone, Copy, Debug, PartialEq, Eq)]
+#[derive(Clone, Copy, PartialEq, Eq)]
 pub struct Difference {
     /// What differs.
     pub what: Aspect,

@@ -3,13 +3,13 @@ use Rattle.std.proofs.Common.{◌≡◌, ℕ, ◌^◌, Bool, true, false, List, 
 use Rattle.std.proofs.{lemmas.Bool.cases_Bool, lemmas.List.Elements.{All-cons, All-nil}}
 use Rattle.std.specs.Prelude.{codes, filter, find, is_some, IfSome, option_map, option_and_then}
 use Rattle.bridge_io.proofs.Texts.{same_bytes}
-use Rattle.mpd_values.specs.{declared.blank.Blank.TheVariants.Space, Blanks.trimmed, Numbers.{has_minus, is_between, kept_if}}
-use Rattle.mpd_values.specs.Numbers.{number_between, number_of, signed_of, signed_64_of}
-use Rattle.mpd_text.specs.{Trees.Element, Views.side_by_side}
+use Rattle.mpd_values.specs.{declared.blank.Blank.TheVariants.Space, Blanks.trimmed}
+use Rattle.mpd_values.specs.Numbers.{has_minus, is_between, kept_if, number_between, number_of, signed_of, signed_64_of}
+use Rattle.mpd_tree.specs.{Trees.Element, Views.side_by_side}
 use Rattle.mpd_profile.specs.{declared.listed.Addressing.Addressing, declared.listed.Listed.Listed}
 use Rattle.mpd_profile.specs.declared.listed.Listed.TheVariants.{SegmentTemplate, SegmentList, SegmentTimeline, S}
-use Rattle.mpd_profile.specs.{declared.value.Value.TheVariants.{Number, Signed}, Elements.{child_of, value_of}, Heads.is_named}
-use Rattle.mpd_profile.specs.{Heads.value_named, LeftOut.is_left_out, Sound.{IsSound, IsSoundChild, parent_of}, Values.is_value}
+use Rattle.mpd_profile.specs.{declared.value.Value.TheVariants.{Number, Signed}, Elements.{child_of, value_of}}
+use Rattle.mpd_profile.specs.{Heads.{is_named, value_named}, LeftOut.is_left_out, Sound.{IsSound, IsSoundChild, parent_of}, Values.is_value}
 use Rattle.mpd_profile.specs.Visits.{Parent}
 use Rattle.mpd_profile.proofs.Sound.{sound_children}
 use Rattle.mpd_levels.specs.{Fits.{FitsBetween, FitsLevel, FitsRun, FitsSegments, FitsTimeline}, Levels.{list_name, template_name}}

@@ -1,12 +1,13 @@
 -- Keys and rows as tables grow, and as levels are put together.
 use Rattle.std.proofs.Common.{◌≡◌, ℕ, Bool, List, [], ◌∷◌, Option, Some, None, refl, sym, ◌∙◌, ap}
 use Rattle.std.specs.Prelude.{slice_get, option_and_then}
-use Rattle.mpd_text.specs.Trees.{Element}
+use Rattle.mpd_tree.specs.Trees.{Element}
 use Rattle.mpd_profile.specs.Heads.{or_else}
 use Rattle.mpd_levels.specs.{declared.addressing.SegmentRow.SegmentRow, declared.level.Means.Means, declared.tables.Tables.Tables}
-use Rattle.mpd_levels.specs.{declared.values.ValueRow.ValueRow, Merged.{row_over, no_row}, Segments.{Segments, Values, told, values_by}}
-use Rattle.mpd_levels.specs.{Segments.{values_in, segments_by, segments_of}, Indexed.{index_by, index_of}, Levels.used, Shown.Stays}
-use Rattle.mpd_levels.specs.Shown.{Grows, IsKey, Shows, Tells, segments_shown, values_shown, timelines_in, lists_in}
+use Rattle.mpd_levels.specs.{declared.values.ValueRow.ValueRow, Merged.{row_over, no_row}}
+use Rattle.mpd_levels.specs.Segments.{Segments, Values, told, values_by, values_in, segments_by, segments_of}
+use Rattle.mpd_levels.specs.{Indexed.{index_by, index_of}, Levels.used}
+use Rattle.mpd_levels.specs.Shown.{Stays, Grows, IsKey, Shows, Tells, segments_shown, values_shown, timelines_in, lists_in}
 
 pub Grows-same : {tables : Tables} → Grows tables tables
 Grows-same = record { timelines = record { at = λ k x is. is }; lists = record { at = λ k x is. is } }

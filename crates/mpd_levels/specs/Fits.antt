@@ -2,7 +2,7 @@
 -- the reading without one gives.
 use Rattle.std.specs.Prelude.{◌≡◌, ℕ, ◌^◌, List, All, codes, IfSome, Option, option_and_then}
 use Rattle.mpd_values.specs.Numbers.{number_between, signed_64_of}
-use Rattle.mpd_text.specs.Trees.{Head, Element}
+use Rattle.mpd_tree.specs.Trees.{Head, Element}
 use Rattle.mpd_profile.specs.Heads.{value_named}
 use Rattle.mpd_levels.specs.{Readings.{number_named, signed_named, child_named, children_named}, Levels.{template_name, list_name}}
 

@@ -2,7 +2,7 @@
 use Rattle.mpd_levels.specs.declared.level.Means.TheVariants as means
 use Rattle.std.specs.Prelude.{◌==◌, ◌&&◌, Bool, true, List, codes, is_none, Option, Some, None, option_map}
 use Rattle.url_parts.specs.declared.range.Range.{Range}
-use Rattle.mpd_text.specs.Trees.{Element}
+use Rattle.mpd_tree.specs.Trees.{Element}
 use Rattle.mpd_levels.specs.{declared.level.Means.Means, declared.initialization.Initialization.Initialization}
 use Rattle.mpd_levels.specs.{declared.indexed.IndexRow.IndexRow, Readings.{range_named, child_named}, Levels.{first_some, base_name, used}}
 use Rattle.mpd_levels.specs.Segments.{initialization_in}

@@ -2,7 +2,7 @@
 -- AdaptationSet and its Period, stand in a list from the lowest one on.
 use Rattle.mpd_levels.specs.declared.level.Means.TheVariants as means
 use Rattle.std.specs.Prelude.{ℕ, Bool, List, [], ◌∷◌, filter_map, codes, is_some, if◌then◌else◌, Option, Some, None}
-use Rattle.mpd_text.specs.Trees.{Element}
+use Rattle.mpd_tree.specs.Trees.{Element}
 use Rattle.mpd_profile.specs.Heads.{or_else}
 use Rattle.mpd_levels.specs.{declared.level.Means.Means, Readings.child_named}
 

@@ -2,7 +2,7 @@
 use Rattle.std.specs.Prelude.{ℕ, ℤ, List, filter, find, Option, option_and_then}
 use Rattle.url_parts.specs.{Ranges.range_of, declared.range.Range.Range}
 use Rattle.mpd_values.specs.{declared.blank.Blank.TheVariants.Space, Blanks.trimmed, Numbers.{number_of, signed_of}}
-use Rattle.mpd_text.specs.{Trees.{Head, Element}, Views.side_by_side}
+use Rattle.mpd_tree.specs.{Trees.{Head, Element}, Views.side_by_side}
 use Rattle.mpd_profile.specs.Heads.{is_named, value_named}
 
 abbrev pub number_named : List ℕ → Head → Option ℕ

@@ -3,12 +3,13 @@ use Rattle.mpd_levels.specs.declared.level.Means.TheVariants as means
 use Rattle.std.specs.Prelude.{ℕ, pos, ◌||◌, ◌&&◌, not, Bool, true, false, List, [], ◌∷◌, map, codes, is_none, if◌then◌else◌, Option, Some}
 use Rattle.std.specs.Prelude.{None, option_map, option_and_then, unwrap_or}
 use Rattle.url_parts.specs.declared.range.Range.{Range}
-use Rattle.timeline.specs.{declared.entry.SEntry.SEntry, declared.names.RefPart.RefPart}
-use Rattle.mpd_text.specs.Trees.{Head, Element}
+use Rattle.mpd_entries.specs.{declared.entry.SEntry.SEntry, declared.ref_part.RefPart.RefPart}
+use Rattle.mpd_tree.specs.Trees.{Head, Element}
 use Rattle.mpd_profile.specs.Heads.{value_named}
 use Rattle.mpd_levels.specs.{declared.level.Means.Means, declared.initialization.Initialization.Initialization}
-use Rattle.mpd_levels.specs.{declared.values.Attributes.Attributes, Readings.{number_named, signed_named, range_named, child_named}}
-use Rattle.mpd_levels.specs.{Readings.children_named, Levels.{first_some, template_name, list_name, used, elements_used}}
+use Rattle.mpd_levels.specs.declared.values.Attributes.{Attributes}
+use Rattle.mpd_levels.specs.Readings.{number_named, signed_named, range_named, child_named, children_named}
+use Rattle.mpd_levels.specs.Levels.{first_some, template_name, list_name, used, elements_used}
 
 -- what elements say
 pub record Values : Type 0 where

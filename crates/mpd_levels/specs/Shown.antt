@@ -1,12 +1,12 @@
 -- What rows say, their timelines and lists looked up in tables.
 use Rattle.std.specs.Prelude.{◌≡◌, ℕ, true, false, List, Option, Some, None, option_map, option_and_then, slice_get}
-use Rattle.mpd_text.specs.Trees.{Element}
+use Rattle.mpd_tree.specs.Trees.{Element}
 use Rattle.mpd_levels.specs.{declared.addressing.Addressing.Addressing, declared.addressing.SegmentRow.SegmentRow}
 use Rattle.mpd_levels.specs.{declared.indexed.InitView.InitView, declared.initialization.Initialization.Initialization}
 use Rattle.mpd_levels.specs.{declared.level.Level.Level, declared.tables.Tables.Tables, declared.values.ValueRow.ValueRow}
 use Rattle.mpd_levels.specs.{Levels.{used, elements_used, template_name, list_name}, Segments.{Values, Segments, told, values_in}}
 use Rattle.mpd_levels.specs.Indexed.{base_in}
-use Rattle.timeline.specs.declared.{entry.SEntry.SEntry, names.RefPart.RefPart}
+use Rattle.mpd_entries.specs.{declared.entry.SEntry.SEntry, declared.ref_part.RefPart.RefPart}
 
 -- ---- tables
 

@@ -10,12 +10,12 @@ use crate::shared_text::SharedText;
 use crate::tables::Tables;
 use crate::values::ValueRow;
 use bridge_io::NoMemory;
-use timeline::SharedNames;
+use mpd_entries::SharedNames;
 use url_parts::Range;
 
 /// The effective values of the used kind, a SegmentTemplate or a SegmentList (ISO/IEC 23009-1, 5.3.9.1). Timeline and
 /// list stand in tables.
-#[derive(Debug, Drop)]
+#[derive(Drop)]
 pub struct SegmentRow {
     pub(crate) is_list: bool,
     pub(crate) values: ValueRow,
@@ -50,7 +50,7 @@ impl SegmentRow {
 }
 
 /// The effective values of the used kind, as a view.
-#[derive(Clone, Copy, Debug)]
+#[derive(Clone, Copy)]
 pub struct Addressing<'a> {
     tables: &'a Tables,
     row: &'a SegmentRow,

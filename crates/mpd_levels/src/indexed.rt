@@ -1,25 +1,25 @@
 // Files with an index inside.
 ghost use Rattle.std.specs.Prelude.{◌≡◌, IfOk, option_map};
-ghost use Rattle.mpd_text.specs.Nodes.{element_of};
+ghost use Rattle.mpd_tree.specs.Nodes.{element_of};
 ghost use Rattle.mpd_profile.specs.Heads.{or_else};
 ghost use Rattle.mpd_levels.specs.Indexed as spec;
 
 use crate::initialization::{Initialization, initialization_in, share_initialization};
 use crate::readings::range;
 use bridge_io::NoMemory;
-use mpd_text::Node;
+use mpd_tree::Node;
 use std::alloc::Global;
 use url_parts::Range;
 
 /// Where a file's index lies, and its initialization part: a SegmentBase (ISO/IEC 23009-1, 5.3.9.2).
-#[derive(Debug, Drop)]
+#[derive(Drop)]
 pub struct IndexRow {
     pub(crate) range: Option<Range>,
     pub(crate) initialization: Option<Initialization>,
 }
 
 /// An Initialization.
-#[derive(Clone, Copy, Debug)]
+#[derive(Clone, Copy)]
 pub struct InitView<'a> {
     initialization: &'a Initialization,
 }

@@ -1,18 +1,18 @@
 // Initializations.
 ghost use Rattle.std.specs.Prelude.{◌≡◌, IfOk};
-ghost use Rattle.mpd_text.specs.Nodes.{element_of};
+ghost use Rattle.mpd_tree.specs.Nodes.{element_of};
 ghost use Rattle.mpd_profile.specs.Heads.{or_else};
 ghost use Rattle.mpd_levels.specs.Segments.{initialization_in, initialization_of};
 
 use crate::readings::{child_named, range, text};
 use crate::shared_text::{SharedText, share_text};
 use bridge_io::NoMemory;
-use mpd_text::Node;
+use mpd_tree::Node;
 use std::alloc::Global;
 use url_parts::Range;
 
 /// An Initialization (ISO/IEC 23009-1, 5.3.9.2).
-#[derive(Debug, Drop)]
+#[derive(Drop)]
 pub(crate) struct Initialization {
     pub(crate) reference: Option<SharedText>,
     pub(crate) range: Option<Range>,

@@ -1,7 +1,7 @@
 // What the levels of an MPD say of segments: a Period, an AdaptationSet and a Representation.
 ghost use Rattle.std.specs.Prelude.{◌≡◌, ◌∷◌, [], IfOk, List, is_some, option_map};
-ghost use Rattle.mpd_text.specs.Nodes.{element_of};
-ghost use Rattle.mpd_text.specs.Trees.{Element};
+ghost use Rattle.mpd_tree.specs.Nodes.{element_of};
+ghost use Rattle.mpd_tree.specs.Trees.{Element};
 ghost use Rattle.mpd_levels.specs.Fits.{FitsLevel};
 ghost use Rattle.mpd_levels.specs.Indexed.{index_of};
 ghost use Rattle.mpd_levels.specs.Levels.{means_by};
@@ -15,11 +15,11 @@ use crate::readings::child_named;
 use crate::tables::Tables;
 use crate::values::ValueRow;
 use bridge_io::NoMemory;
-use mpd_text::Node;
+use mpd_tree::Node;
 use std::alloc::Global;
 
 /// How segments are told.
-#[derive(Clone, Copy, Debug, PartialEq, Eq)]
+#[derive(Clone, Copy, PartialEq, Eq)]
 pub(crate) enum Means {
     Template,
     List,
@@ -27,7 +27,7 @@ pub(crate) enum Means {
 }
 
 /// What a Period, an AdaptationSet or a Representation says of segments, together with the levels above it.
-#[derive(Debug, Drop)]
+#[derive(Drop)]
 pub struct Level {
     /// What the lowest level that has any says.
     means: Option<Means>,

@@ -1,6 +1,6 @@
 // What attributes denote.
 ghost use Rattle.std.specs.Prelude.{◌≡◌, IfOk, option_map};
-ghost use Rattle.mpd_text.specs.Nodes.{element_of};
+ghost use Rattle.mpd_tree.specs.Nodes.{element_of};
 ghost use Rattle.mpd_profile.specs.Heads.{value_named};
 ghost use Rattle.mpd_levels.specs.Fits.{number_within};
 ghost use Rattle.mpd_levels.specs.Readings as spec;
@@ -8,7 +8,7 @@ ghost use Rattle.mpd_levels.specs.Readings as spec;
 use crate::shared_text::SharedText;
 use bridge_io::NoMemory;
 use mpd_profile::value_named;
-use mpd_text::Node;
+use mpd_tree::Node;
 use mpd_values::{Blank, read_number, trimmed};
 use std::alloc::Global;
 use url_parts::{Range, read_range};

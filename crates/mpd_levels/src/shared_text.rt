@@ -10,7 +10,7 @@ use std::rc::Rc;
 /// A text that is kept once for all that have it.
 ///
 /// In a contract it is the text's bytes.
-#[derive(Debug, Drop)]
+#[derive(Drop)]
 pub struct SharedText {
     text: Rc<Text>,
 }

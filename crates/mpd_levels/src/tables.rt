@@ -1,6 +1,6 @@
 // What is kept once for all Representations.
 ghost use Rattle.std.specs.Prelude.{◌≡◌, [], IfOk, Some, codes, map, option_map, slice_get};
-ghost use Rattle.mpd_text.specs.Nodes.{element_of};
+ghost use Rattle.mpd_tree.specs.Nodes.{element_of};
 ghost use Rattle.mpd_levels.specs.Fits.{FitsRun, FitsTimeline};
 ghost use Rattle.mpd_levels.specs.Segments.{run_of, runs_of, url_of, urls_in};
 ghost use Rattle.mpd_levels.specs.Readings.{children_named, signed_named};
@@ -9,16 +9,16 @@ ghost use Rattle.mpd_levels.specs.Shown as spec;
 
 use crate::readings::{count_named, number, range};
 use bridge_io::{NoMemory, Sequence, Text};
+use mpd_entries::{RefList, RefPart, SEntry, SList, SharedNames};
 use mpd_profile::value_named;
-use mpd_text::Node;
+use mpd_tree::Node;
 use mpd_values::read_signed;
 use std::alloc::Global;
-use timeline::{RefList, RefPart, SEntry, SList, SharedNames};
 
 /// The timelines and the lists of SegmentURLs of an MPD, each kept once for all Representations that have it.
 ///
 /// What is added stays at its place.
-#[derive(Debug, Drop)]
+#[derive(Drop)]
 pub struct Tables {
     pub(crate) timelines: Sequence<SList>,
     pub(crate) lists: Sequence<SharedNames>,

@@ -1,8 +1,8 @@
 // What a SegmentTemplate or a SegmentList says, and those above it.
 ghost use Rattle.std.specs.Prelude.{◌≡◌, IfOk, IfSome, List, codes, option_map};
 ghost use Rattle.std.specs.List.{cons_option};
-ghost use Rattle.mpd_text.specs.Nodes.{element_of};
-ghost use Rattle.mpd_text.specs.Trees.{Element};
+ghost use Rattle.mpd_tree.specs.Nodes.{element_of};
+ghost use Rattle.mpd_tree.specs.Trees.{Element};
 ghost use Rattle.mpd_profile.specs.Heads.{or_else, value_named};
 ghost use Rattle.mpd_levels.specs.Fits.{FitsNumbers, FitsSegments};
 ghost use Rattle.mpd_levels.specs.Merged.{attributes_over, no_row, row_over};
@@ -15,12 +15,12 @@ use crate::readings::{child_named, number, text};
 use crate::shared_text::{SharedText, text_over};
 use crate::tables::{Tables, read_timeline, read_urls};
 use bridge_io::NoMemory;
-use mpd_text::Node;
+use mpd_entries::SharedNames;
+use mpd_tree::Node;
 use std::alloc::Global;
-use timeline::SharedNames;
 
 /// Attributes (ISO/IEC 23009-1, 5.3.9.2 to 5.3.9.4). A SegmentList has the numbers alone.
-#[derive(Debug, Drop)]
+#[derive(Drop)]
 pub(crate) struct Attributes {
     pub(crate) media: Option<SharedText>,
     pub(crate) initialization: Option<SharedText>,
@@ -31,7 +31,7 @@ pub(crate) struct Attributes {
 }
 
 /// What elements of one kind say together. Timeline and list stand for those of the tables.
-#[derive(Debug, Drop)]
+#[derive(Drop)]
 pub(crate) struct ValueRow {
     pub(crate) attributes: Attributes,
     pub(crate) initialization: Option<Initialization>,

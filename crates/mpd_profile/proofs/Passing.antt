@@ -1,17 +1,18 @@
 -- A pass over what stands in an element.
 use Rattle.std.proofs.Common.{◌≡◌, ℕ, ◌<◌, max, suc, true, false, List, [], ◌∷◌, ◌++◌, Option, Some, None, Result, Ok, Err, IfSome, refl}
-use Rattle.std.proofs.{Common.{sym, ◌∙◌, ap, subst, arith}, lemmas.List.Concat.flat_map-append, lemmas.List.Elements.{All-cons, All-head}}
-use Rattle.std.proofs.lemmas.List.Elements.{All-nil, All-tail, All-weaker}
+use Rattle.std.proofs.{Common.{sym, ◌∙◌, ap, subst, arith}, lemmas.List.Concat.flat_map-append}
+use Rattle.std.proofs.lemmas.List.Elements.{All-cons, All-head, All-nil, All-tail, All-weaker}
 use Rattle.std.specs.{Prelude.{flat_map, if◌then◌else◌}, List.All}
 use Rattle.bridge_io.specs.{Answer.Gives, Firsts.first_fault}
-use Rattle.mpd_text.specs.{Trees.{Head, Forest, nothing, element, Element, depth}, Views.side_by_side}
-use Rattle.mpd_profile.specs.{declared.fault.RuleFault.RuleFault, declared.fault.RuleFault.TheVariants.{Root, Namespace, Missing, Value}}
-use Rattle.mpd_profile.specs.declared.fault.RuleFault.TheVariants.{NoStart, PeriodOrder, Encryption, Events, LowLatency, Remote, Essential}
-use Rattle.mpd_profile.specs.declared.fault.RuleFault.TheVariants.{Unsupported, IndexNeeded, NoTracks, Memory}
-use Rattle.mpd_profile.specs.{declared.listed.Listed.Listed, declared.siblings.Siblings.Siblings, declared.visit.Pass.Pass, Behind.IsBehind}
-use Rattle.mpd_profile.specs.{Elements.child_of, LeftOut.{is_left_out, is_left_out_by, type_of}, Passes.{addressing_of, refused_along}}
-use Rattle.mpd_profile.specs.{Passes.{refused_child, refused_in, refused_inside, told_by}, Refusals.refusal, Visits.{Parent, Visit, inside}}
-use Rattle.mpd_profile.specs.Visits.{parent_in, root_parent, root_visit, unless_empty, visit_in, visits_in}
+use Rattle.mpd_tree.specs.{Trees.{Head, Forest, nothing, element, Element, depth}, Views.side_by_side}
+use Rattle.mpd_profile.specs.declared.fault.RuleFault.{RuleFault}
+use Rattle.mpd_profile.specs.declared.fault.RuleFault.TheVariants.{Root, Namespace, Missing, Value, NoStart, PeriodOrder, Encryption}
+use Rattle.mpd_profile.specs.declared.fault.RuleFault.TheVariants.{Events, LowLatency, Remote, Essential, Unsupported, IndexNeeded}
+use Rattle.mpd_profile.specs.{declared.fault.RuleFault.TheVariants.{NoTracks, Memory}, declared.listed.Listed.Listed}
+use Rattle.mpd_profile.specs.{declared.siblings.Siblings.Siblings, declared.visit.Pass.Pass, Behind.IsBehind, Elements.child_of}
+use Rattle.mpd_profile.specs.LeftOut.{is_left_out, is_left_out_by, type_of}
+use Rattle.mpd_profile.specs.{Passes.{addressing_of, refused_along, refused_child, refused_in, refused_inside, told_by}, Refusals.refusal}
+use Rattle.mpd_profile.specs.Visits.{Parent, Visit, inside, parent_in, root_parent, root_visit, unless_empty, visit_in, visits_in}
 
 -- what a call answers of these refusals
 abbrev pub Tells : Result (Unit {0}) RuleFault → List RuleFault → Type 0

@@ -4,14 +4,15 @@ use Rattle.std.proofs.{Common.subst, lemmas.List.Concat.flat_map-append, lemmas.
 use Rattle.std.specs.{Prelude.{flat_map, if◌then◌else◌, option_map}, List.{All, Contains, list_any}}
 use Rattle.bridge_io.proofs.Texts.{same_bytes}
 use Rattle.bridge_io.specs.Firsts.{first_fault}
-use Rattle.mpd_text.specs.{Trees.{Attribute, Head, Forest, nothing, element, Element}, Views.{attribute_named, side_by_side}}
+use Rattle.mpd_tree.specs.{Trees.{Attribute, Head, Forest, nothing, element, Element}, Views.{attribute_named, side_by_side}}
 use Rattle.mpd_profile.specs.{declared.fault.RuleFault.RuleFault, declared.fault.RuleFault.TheVariants.{Missing, Value}}
 use Rattle.mpd_profile.specs.{declared.listed.Listed.Listed, declared.listed.Listed.TheVariants.Mpd, declared.listed.Addressing.Addressing}
 use Rattle.mpd_profile.specs.{declared.value.Value.Value as Kind, Elements.{child_of, value_of}, Heads.{is_dynamic, value_named}}
-use Rattle.mpd_profile.specs.{LeftOut.is_left_out, Refusals.{attribute_told, feature_refusals, has_no_type, is_other, is_other_value}}
-use Rattle.mpd_profile.specs.Refusals.{is_repeated_id, lacks, refusals_of, required_of, root_refusals, value_refusals, values_at}
-use Rattle.mpd_profile.specs.{Sound.{AreSoundChildren, IsSound, IsSoundAs, IsSoundChild, parent_of}, Values.is_value, Visits.Parent}
-use Rattle.mpd_profile.specs.Visits.{Visit, inside, parent_in, root_parent, root_visit, visits_in}
+use Rattle.mpd_profile.specs.LeftOut.{is_left_out}
+use Rattle.mpd_profile.specs.Refusals.{attribute_told, feature_refusals, has_no_type, is_other, is_other_value, is_repeated_id, lacks}
+use Rattle.mpd_profile.specs.Refusals.{refusals_of, required_of, root_refusals, value_refusals, values_at}
+use Rattle.mpd_profile.specs.{Sound.{AreSoundChildren, IsSound, IsSoundAs, IsSoundChild, parent_of}, Values.is_value}
+use Rattle.mpd_profile.specs.Visits.{Parent, Visit, inside, parent_in, root_parent, root_visit, visits_in}
 
 none_before : {X : Type 0} (xs ys : List X) → xs ++ ys ≡ [] → xs ≡ []
 none_before [] ys none = refl

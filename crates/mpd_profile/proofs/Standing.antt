@@ -1,10 +1,10 @@
 -- One more element before.
-use Rattle.std.proofs.Common.{◌≡◌, ℕ, Bool, true, false, ◌||◌, ◌&&◌, List, [], ◌∷◌, ◌++◌, Option, Some, None, refl, sym, ◌∙◌, ap, bytes_eq}
-use Rattle.std.proofs.{lemmas.List.map-append, lemmas.List.Folds.list_any-append}
+use Rattle.std.proofs.Common.{◌≡◌, ℕ, Bool, true, false, ◌||◌, ◌&&◌, List, [], ◌∷◌, ◌++◌, Option, Some, None, refl, sym, ◌∙◌, ap}
+use Rattle.std.proofs.{Common.bytes_eq, lemmas.List.map-append, lemmas.List.Folds.list_any-append}
 use Rattle.std.specs.{Prelude.{codes, if◌then◌else◌}, List.list_any}
 use Rattle.bridge_io.proofs.Texts.{among_more, bytes_eq_sym, or_nothing}
 use Rattle.bridge_io.specs.Texts.{is_among}
-use Rattle.mpd_text.specs.Trees.{Head}
+use Rattle.mpd_tree.specs.Trees.{Head}
 use Rattle.mpd_profile.specs.{declared.siblings.Siblings.Siblings, Behind.{IsBehind, holds_id}, Features.{is_segment_element, names_of}}
 use Rattle.mpd_profile.specs.{Heads.is_short, Refusals.{has_id, is_same_id}}
 use Rattle.mpd_profile.proofs.Untold.{no_initialization, no_period, no_segments, no_timeline}

@@ -4,9 +4,10 @@ use Rattle.std.proofs.Common.{◌≡◌, ℕ, true, false, List, Option, Some, N
 use Rattle.std.proofs.{Common.{◌||◌, Bool}, lemmas.Bool.cases_Bool}
 use Rattle.std.specs.Prelude.{codes}
 use Rattle.bridge_io.proofs.Texts.{same_bytes}
-use Rattle.mpd_text.specs.Trees.{Attribute}
-use Rattle.mpd_profile.specs.{declared.listed.Listed.Listed, Features.{attribute_feature, is_entry_value, is_essential_in}}
-use Rattle.mpd_profile.specs.{Features.{is_segment_element, parent_feature}, Heads.is_short, Visits.Parent}
+use Rattle.mpd_tree.specs.Trees.{Attribute}
+use Rattle.mpd_profile.specs.declared.listed.Listed.{Listed}
+use Rattle.mpd_profile.specs.Features.{attribute_feature, is_entry_value, is_essential_in, is_segment_element, parent_feature}
+use Rattle.mpd_profile.specs.{Heads.is_short, Visits.Parent}
 
 -- ---- short names
 

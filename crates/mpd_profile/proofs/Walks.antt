@@ -2,7 +2,7 @@
 use Rattle.std.proofs.Common.{◌≡◌, true, List, [], ◌∷◌, ◌++◌, flat_map, Result, Ok, Err, refl, ◌∙◌}
 use Rattle.std.specs.Result.{is_ok}
 use Rattle.bridge_io.specs.Firsts.{first_fault}
-use Rattle.mpd_text.specs.Trees.{Element}
+use Rattle.mpd_tree.specs.Trees.{Element}
 use Rattle.mpd_profile.specs.{declared.fault.RuleFault.RuleFault, declared.listed.Addressing.TheVariants.Segments}
 use Rattle.mpd_profile.specs.{declared.visit.Pass.TheVariants.{Both, Features, Values}, Features.features_at, Passes.{refused_in, told_by}}
 use Rattle.mpd_profile.specs.{Refusals.values_at, Visits.{Visit, visits_of}}

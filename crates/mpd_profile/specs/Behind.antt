@@ -1,7 +1,7 @@
 -- What the elements before one in its parent say of it.
 use Rattle.std.specs.{Prelude.{◌≡◌, ℕ, ◌&&◌, Bool, List, codes, map}, List.list_any}
 use Rattle.bridge_io.specs.Texts.{is_among}
-use Rattle.mpd_text.specs.Trees.{Head}
+use Rattle.mpd_tree.specs.Trees.{Head}
 use Rattle.mpd_profile.specs.{declared.siblings.Siblings.Siblings, Features.{is_segment_element, names_of}, Refusals.has_id}
 
 abbrev pub holds_id : Siblings → List ℕ → Bool

@@ -1,9 +1,9 @@
 -- Features of ISO/IEC 23009-1 that are refused by name wherever they stand.
 use Rattle.mpd_profile.specs.declared.fault.RuleFault.TheVariants as fault
-use Rattle.std.specs.Prelude.{ℕ, ◌&&◌, ◌||◌, Bool, true, false, List, [], ◌∷◌, ◌++◌, codes, bytes_eq, map, flat_map, if◌then◌else◌, Option}
-use Rattle.std.specs.{Prelude.{Some, None, option_and_then}, List.list_any}
+use Rattle.std.specs.Prelude.{ℕ, ◌&&◌, ◌||◌, Bool, true, false, List, [], ◌∷◌, ◌++◌, codes, bytes_eq, map, flat_map, if◌then◌else◌}
+use Rattle.std.specs.{Prelude.{Option, Some, None, option_and_then}, List.list_any}
 use Rattle.bridge_io.specs.{Texts.is_among, declared.place.Place.Place, declared.media.Kind.Kind}
-use Rattle.mpd_text.specs.Trees.{Attribute, Head}
+use Rattle.mpd_tree.specs.Trees.{Attribute, Head}
 use Rattle.mpd_values.specs.{declared.blank.Blank.TheVariants.Space, Blanks.trimmed, Codecs.has_foreign_code, MediaTypes.kind_of}
 use Rattle.mpd_profile.specs.{declared.fault.RuleFault.RuleFault, declared.feature.Feature.Feature}
 use Rattle.mpd_profile.specs.declared.feature.Feature.TheVariants.{Encryption, Events, LowLatency, Remote, Essential, Unsupported}

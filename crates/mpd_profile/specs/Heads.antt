@@ -1,6 +1,6 @@
 -- What tags say.
 use Rattle.std.specs.{Prelude.{ℕ, Bool, false, List, codes, bytes_eq, length, nat_lt, Option, Some, None, option_map}, List.list_any}
-use Rattle.mpd_text.specs.{Trees.{Head, Forest, Element}, Views.{attribute_named, side_by_side}}
+use Rattle.mpd_tree.specs.{Trees.{Head, Forest, Element}, Views.{attribute_named, side_by_side}}
 
 -- the value of the attribute of that name
 abbrev pub value_named : List ℕ → Head → Option (List ℕ)

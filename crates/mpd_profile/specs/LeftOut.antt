@@ -2,7 +2,7 @@
 -- and 5.8.4.8 on EssentialProperty).
 use Rattle.std.specs.{Prelude.{ℕ, ◌||◌, not, Bool, false, List, codes, is_none, Option, Some, None}, List.list_all}
 use Rattle.mpd_values.specs.MediaTypes.{kind_of}
-use Rattle.mpd_text.specs.{Trees.{Head, Element}, Views.side_by_side}
+use Rattle.mpd_tree.specs.{Trees.{Head, Element}, Views.side_by_side}
 use Rattle.mpd_profile.specs.{declared.listed.Listed.Listed, declared.listed.Listed.TheVariants.{AdaptationSet, Representation}}
 use Rattle.mpd_profile.specs.Heads.{has_child, is_named, or_else, value_named}
 

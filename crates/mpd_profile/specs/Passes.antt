@@ -2,12 +2,12 @@
 use Rattle.mpd_profile.specs.declared.parent.Parent as parents
 use Rattle.mpd_profile.specs.declared.visit.Visit as visits
 use Rattle.std.specs.{Prelude.{List, [], ◌∷◌, ◌++◌, flat_map, if◌then◌else◌, option_map}, Borrow.Bor}
-use Rattle.mpd_text.specs.{Nodes.element_of, Trees.{Head, Forest, Element}}
+use Rattle.mpd_tree.specs.{Nodes.element_of, Trees.{Head, Forest, Element}}
 use Rattle.mpd_profile.specs.{declared.fault.RuleFault.RuleFault, declared.listed.Addressing.Addressing}
 use Rattle.mpd_profile.specs.{declared.listed.Addressing.TheVariants.Segments, declared.visit.Pass.Pass}
 use Rattle.mpd_profile.specs.{declared.visit.Pass.TheVariants.{Both, Features, Values}, Elements.child_of, Features.features_at}
-use Rattle.mpd_profile.specs.{LeftOut.is_left_out, Refusals.values_at, Visits.{Parent, Visit, inside, parent_in, visit_in, visits_in}}
-use Rattle.mpd_profile.specs.Visits.{visits_of}
+use Rattle.mpd_profile.specs.{LeftOut.is_left_out, Refusals.values_at}
+use Rattle.mpd_profile.specs.Visits.{Parent, Visit, inside, parent_in, visit_in, visits_in, visits_of}
 
 -- ---- what the code holds
 

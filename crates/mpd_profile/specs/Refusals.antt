@@ -1,13 +1,14 @@
 -- What is refused in an MPD before its Periods and Representations are put together, pass by pass.
-use Rattle.std.specs.Prelude.{ℕ, ◌&&◌, ◌||◌, not, Bool, true, false, List, [], ◌∷◌, ◌++◌, codes, bytes_eq, flat_map, is_none, if◌then◌else◌}
-use Rattle.std.specs.{Prelude.{Option, Some, None}, List.list_any}
-use Rattle.mpd_text.specs.Trees.{Attribute, Head, Element}
+use Rattle.std.specs.Prelude.{ℕ, ◌&&◌, ◌||◌, not, Bool, true, false, List, [], ◌∷◌, ◌++◌, codes, bytes_eq, flat_map, is_none}
+use Rattle.std.specs.{Prelude.{if◌then◌else◌, Option, Some, None}, List.list_any}
+use Rattle.mpd_tree.specs.Trees.{Attribute, Head, Element}
 use Rattle.mpd_values.specs.MediaTypes.{is_alike}
-use Rattle.mpd_profile.specs.{declared.fault.RuleFault.RuleFault, declared.fault.RuleFault.TheVariants.{Root, Namespace, Missing, Value}}
-use Rattle.mpd_profile.specs.{declared.fault.RuleFault.TheVariants.Memory, declared.value.Value.Value as Kind}
-use Rattle.mpd_profile.specs.{declared.listed.Listed.Listed, declared.listed.Listed.TheVariants.{Mpd, Period, Representation, S}}
-use Rattle.mpd_profile.specs.{declared.listed.Addressing.Addressing, declared.listed.Addressing.TheVariants.Segments, Elements.value_of}
-use Rattle.mpd_profile.specs.{Values.is_value, Heads.{value_over, value_named}, Visits.{Parent, Visit, visits_of}, Features.features_at}
+use Rattle.mpd_profile.specs.declared.fault.RuleFault.{RuleFault}
+use Rattle.mpd_profile.specs.declared.fault.RuleFault.TheVariants.{Root, Namespace, Missing, Value, Memory}
+use Rattle.mpd_profile.specs.{declared.value.Value.Value as Kind, declared.listed.Listed.Listed}
+use Rattle.mpd_profile.specs.{declared.listed.Listed.TheVariants.{Mpd, Period, Representation, S}, declared.listed.Addressing.Addressing}
+use Rattle.mpd_profile.specs.{declared.listed.Addressing.TheVariants.Segments, Elements.value_of, Values.is_value}
+use Rattle.mpd_profile.specs.{Heads.{value_over, value_named}, Visits.{Parent, Visit, visits_of}, Features.features_at}
 
 -- ---- the root (ISO/IEC 23009-1, 5.3.1.2), compared without regard to ASCII case
 

@@ -1,9 +1,9 @@
 -- What can be relied on of an element in which no value is refused.
 use Rattle.std.specs.{Prelude.{◌≡◌, ℕ, Bool, true, false, List, [], flat_map, Some}, List.{All, list_any}}
-use Rattle.mpd_text.specs.{Trees.Element, Views.side_by_side}
+use Rattle.mpd_tree.specs.{Trees.Element, Views.side_by_side}
 use Rattle.mpd_profile.specs.{declared.listed.Listed.Listed, declared.listed.Addressing.Addressing, declared.value.Value.Value}
-use Rattle.mpd_profile.specs.{Elements.{child_of, value_of}, Heads.value_named, LeftOut.is_left_out, Refusals.{has_no_type, lacks}}
-use Rattle.mpd_profile.specs.{Refusals.{required_of, values_at}, Values.is_value, Visits.{Parent, visits_in}}
+use Rattle.mpd_profile.specs.{Elements.{child_of, value_of}, Heads.value_named, LeftOut.is_left_out}
+use Rattle.mpd_profile.specs.{Refusals.{has_no_type, lacks, required_of, values_at}, Values.is_value, Visits.{Parent, visits_in}}
 
 -- an element as the parent of what stands in it
 abbrev pub parent_of : Listed → (dynamic : Bool) → Element → Parent

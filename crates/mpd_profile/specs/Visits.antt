@@ -1,7 +1,7 @@
 -- An MPD's elements in document order, as far as they are looked at: the elements that are read, and what stands
 -- directly in them. What is left out is passed over whole.
 use Rattle.std.specs.Prelude.{Bool, List, [], ◌∷◌, ◌++◌, if◌then◌else◌, Option, Some, None}
-use Rattle.mpd_text.specs.Trees.{Head, Forest, nothing, element, Element}
+use Rattle.mpd_tree.specs.Trees.{Head, Forest, nothing, element, Element}
 use Rattle.mpd_profile.specs.{declared.listed.Listed.Listed, declared.listed.Listed.TheVariants.Mpd, declared.listed.Addressing.Addressing}
 use Rattle.mpd_profile.specs.{Elements.child_of, Heads.is_dynamic, LeftOut.is_left_out}
 

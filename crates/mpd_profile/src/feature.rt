@@ -1,6 +1,6 @@
 // Features that are refused by name.
 ghost use Rattle.std.specs.Prelude.{◌≡◌, map, option_map};
-ghost use Rattle.mpd_text.specs.Views.{attribute_shown};
+ghost use Rattle.mpd_tree.specs.Views.{attribute_shown};
 ghost use Rattle.mpd_profile.specs.Features as spec;
 ghost use Rattle.mpd_profile.specs.Rows.{shown};
 
@@ -9,11 +9,11 @@ use crate::left_out::ESSENTIAL;
 use crate::listed::{Listed, named_in};
 use crate::tables;
 use bridge_io::Place;
-use mpd_text::Attr;
+use mpd_tree::Attr;
 use mpd_values::{Blank, has_foreign_code, kind_of, trimmed};
 
 /// A feature that is refused wherever it stands.
-#[derive(Clone, Copy, Debug)]
+#[derive(Clone, Copy)]
 pub(crate) enum Feature {
     Encryption,
     Events,

@@ -1,9 +1,9 @@
 // What elements say.
 ghost use Rattle.std.specs.Prelude.{◌≡◌, option_map};
-ghost use Rattle.mpd_text.specs.Nodes.{element_of};
+ghost use Rattle.mpd_tree.specs.Nodes.{element_of};
 ghost use Rattle.mpd_profile.specs.Heads as spec;
 
-use mpd_text::Node;
+use mpd_tree::Node;
 
 /// The value of the attribute of that name.
 pub fn value_named<'a>(node: Node<'a>, name: &str) -> Option<&'a str>

@@ -1,13 +1,13 @@
 // What is left out.
 ghost use Rattle.std.specs.Prelude.{◌≡◌, option_map};
 ghost use Rattle.std.specs.List.{list_all};
-ghost use Rattle.mpd_text.specs.Nodes.{element_of};
-ghost use Rattle.mpd_text.specs.Views.{side_by_side};
+ghost use Rattle.mpd_tree.specs.Nodes.{element_of};
+ghost use Rattle.mpd_tree.specs.Views.{side_by_side};
 ghost use Rattle.mpd_profile.specs.LeftOut as spec;
 
 use crate::heads::{has_child, value_named};
 use crate::listed::Listed;
-use mpd_text::Node;
+use mpd_tree::Node;
 use mpd_values::kind_of;
 
 /// A property without which an element can't be played (ISO/IEC 23009-1, 5.8.4.8).

@@ -9,7 +9,7 @@ use crate::tables;
 use crate::value::Value;
 
 /// How an MPD's segments are addressed.
-#[derive(Clone, Copy, Debug)]
+#[derive(Clone, Copy)]
 pub enum Addressing {
     /// One by one, by a SegmentTemplate or a SegmentList.
     Segments,
@@ -18,7 +18,7 @@ pub enum Addressing {
 }
 
 /// An element of ISO/IEC 23009-1, 5.3 that is read, by its name and the parent that it stands in.
-#[derive(Clone, Copy, Debug, PartialEq, Eq)]
+#[derive(Clone, Copy, PartialEq, Eq)]
 pub enum Listed {
     /// The root, 5.3.1.
     Mpd,

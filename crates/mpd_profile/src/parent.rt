@@ -1,14 +1,14 @@
 // What elements stand in.
 ghost use Rattle.std.specs.Prelude.{◌≡◌, codes, option_map};
-ghost use Rattle.mpd_text.specs.Nodes.{element_of};
+ghost use Rattle.mpd_tree.specs.Nodes.{element_of};
 ghost use Rattle.mpd_profile.specs.Heads.{value_named};
 
 use crate::heads::value_named;
 use crate::listed::Listed;
-use mpd_text::Node;
+use mpd_tree::Node;
 
 /// An element that is read, as the parent of others. What its children may take over from it is looked up once.
-#[derive(Clone, Copy, Debug)]
+#[derive(Clone, Copy)]
 pub(crate) struct Parent<'a> {
     pub(crate) listed: Listed,
     pub(crate) node: Node<'a>,

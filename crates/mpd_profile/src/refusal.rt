@@ -2,8 +2,8 @@
 ghost use Rattle.std.specs.Prelude.{◌≡◌, List, [], Ok, OnOk, true};
 ghost use Rattle.bridge_io.specs.Answer.{Gives};
 ghost use Rattle.bridge_io.specs.Firsts.{first_fault};
-ghost use Rattle.mpd_text.specs.Nodes.{element_of, root_of};
-ghost use Rattle.mpd_text.specs.Trees.{Head};
+ghost use Rattle.mpd_tree.specs.Nodes.{element_of, root_of};
+ghost use Rattle.mpd_tree.specs.Trees.{Head};
 ghost use Rattle.mpd_profile.specs.declared.listed.Listed.TheVariants.{Mpd};
 ghost use Rattle.mpd_profile.specs.declared.visit.Pass.TheVariants.{Features, Values};
 ghost use Rattle.mpd_profile.specs.Behind.{IsBehind};
@@ -20,7 +20,7 @@ use crate::listed::{Addressing, Listed};
 use crate::parent::Parent;
 use crate::siblings::Siblings;
 use crate::visit::{Pass, Visit};
-use mpd_text::{Node, Tree};
+use mpd_tree::{Node, Tree};
 use mpd_values::is_alike;
 use std::alloc::Global;
 

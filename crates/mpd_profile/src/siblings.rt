@@ -1,8 +1,8 @@
 // What stands before an element in its parent.
 ghost use Rattle.std.specs.Prelude.{◌≡◌, ◌&&◌, ◌||◌, Bool, ◌∷◌, [], ◌++◌, List, IfErr, OnOk, option_map, if◌then◌else◌, None};
 ghost use Rattle.std.specs.List.{list_any};
-ghost use Rattle.mpd_text.specs.Nodes.{element_of};
-ghost use Rattle.mpd_text.specs.Trees.{Head};
+ghost use Rattle.mpd_tree.specs.Nodes.{element_of};
+ghost use Rattle.mpd_tree.specs.Trees.{Head};
 ghost use Rattle.mpd_profile.specs.Behind.{IsBehind};
 ghost use Rattle.mpd_profile.specs.Features as spec;
 ghost use Rattle.mpd_profile.specs.Refusals.{has_id, period_id};
@@ -10,7 +10,7 @@ ghost use Rattle.mpd_profile.specs.declared.fault.RuleFault.TheVariants.{Memory}
 
 use crate::fault::RuleFault;
 use crate::heads::{is_short, value_named};
-use mpd_text::Node;
+use mpd_tree::Node;
 use std::alloc::Global;
 use std::collections::BTreeSet;
 

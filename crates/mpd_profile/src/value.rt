@@ -12,7 +12,7 @@ use mpd_values::{
 use url_parts::read_range;
 
 /// What the value of an attribute is to be.
-#[derive(Clone, Copy, Debug)]
+#[derive(Clone, Copy)]
 pub enum Value {
     /// `static` or `dynamic` (ISO/IEC 23009-1, 5.3.1.2).
     MpdType,

@@ -2,9 +2,9 @@
 ghost use Rattle.std.specs.Prelude.{◌≡◌, ◌||◌, List, [], Some};
 ghost use Rattle.std.specs.List.{list_any};
 ghost use Rattle.bridge_io.specs.Firsts.{first_fault};
-ghost use Rattle.mpd_text.specs.Nodes.{element_of};
-ghost use Rattle.mpd_text.specs.Trees.{Head};
-ghost use Rattle.mpd_text.specs.Views.{attribute_shown};
+ghost use Rattle.mpd_tree.specs.Nodes.{element_of};
+ghost use Rattle.mpd_tree.specs.Trees.{Head};
+ghost use Rattle.mpd_tree.specs.Views.{attribute_shown};
 ghost use Rattle.mpd_profile.specs.Behind.{IsBehind};
 ghost use Rattle.mpd_profile.specs.Features as features;
 ghost use Rattle.mpd_profile.specs.Heads.{or_else};
@@ -17,10 +17,10 @@ use crate::heads::{is_short, value_named};
 use crate::listed::{Addressing, Listed};
 use crate::parent::Parent;
 use crate::siblings::Siblings;
-use mpd_text::{Attr, Node};
+use mpd_tree::{Attr, Node};
 
 /// What a pass looks for.
-#[derive(Clone, Copy, Debug)]
+#[derive(Clone, Copy)]
 pub(crate) enum Pass {
     Features,
     Values(Addressing),

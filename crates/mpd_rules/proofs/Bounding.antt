@@ -2,9 +2,10 @@
 use Rattle.std.proofs.Common.{◌≡◌, ℕ, List, [], ◌∷◌, ◌++◌, map, Option, Some, None, Ok, refl, sym, ◌∙◌, ap}
 use Rattle.std.specs.Prelude.{unwrap_or}
 use Rattle.bridge_io.specs.declared.place.Place.{Place}
-use Rattle.mpd_text.specs.Trees.{Element}
-use Rattle.mpd_rules.specs.{declared.periods.Bounds.Bounds, Periods.{bounds_from, bounds_of, end_said, order_told, said_of, said_told}}
-use Rattle.mpd_rules.specs.{Periods.{start_of, start_told}, Rules.unless_refused}
+use Rattle.mpd_tree.specs.Trees.{Element}
+use Rattle.mpd_rules.specs.declared.periods.Bounds.{Bounds}
+use Rattle.mpd_rules.specs.Periods.{bounds_from, bounds_of, end_said, order_told, said_of, said_told, start_of, start_told}
+use Rattle.mpd_rules.specs.Rules.{unless_refused}
 use Rattle.mpd_rules.proofs.Refusing.{none_told}
 
 started : (place : Place) (former start end : Option ℕ) → start_told place former start end ≡ [] → start ≡ Some (unwrap_or start 0)

@@ -1,6 +1,6 @@
 -- Values put together.
 use Rattle.std.proofs.{Common.{◌≡◌, List, [], ◌∷◌, ◌++◌, map, ap, ◌∙◌, append_assoc, Result, Ok, Err, OnOk}, lemmas.List.map-append}
-use Rattle.mpd_text.specs.Trees.{Element}
+use Rattle.mpd_tree.specs.Trees.{Element}
 use Rattle.mpd_levels.specs.{declared.level.Level.Level, declared.tables.Tables.Tables, Shown.{Grows, Says}}
 use Rattle.mpd_levels.proofs.Showing.{Shows-grows}
 

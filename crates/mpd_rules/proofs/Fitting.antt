@@ -1,18 +1,19 @@
 -- The values of an MPD in which none is refused are within their bounds.
 use Rattle.std.proofs.Common.{◌≡◌, ℕ, ◌^◌, ◌&&◌, not, Bool, true, false, List, [], ◌∷◌, Option, Some, None, All, refl, ◌∙◌, ap, inl, inr}
-use Rattle.std.proofs.{Common.{arith, nat_lt, ◌==◌}, lemmas.Bool.cases_Bool, lemmas.Bool.Decides.nat_tests, lemmas.List.Elements.All-cons}
-use Rattle.std.proofs.lemmas.List.Elements.{All-nil, All-head, All-tail}
+use Rattle.std.proofs.{Common.{arith, nat_lt, ◌==◌}, lemmas.Bool.cases_Bool, lemmas.Bool.Decides.nat_tests}
+use Rattle.std.proofs.lemmas.List.Elements.{All-cons, All-nil, All-head, All-tail}
 use Rattle.std.specs.{Prelude.{codes, filter, is_some, is_ok, Err, option_and_then}, Option.option_map_or, Result.result_ok}
 use Rattle.bridge_io.proofs.Texts.{same_bytes}
 use Rattle.iso_time.specs.Duration.{DurationParts, answer_of, duration_of, months_of, nanos_of, parts_of}
 use Rattle.iso_time.specs.declared.duration.DurationFault.TheVariants.{Shape}
-use Rattle.mpd_values.specs.{declared.blank.Blank.TheVariants.Space, Blanks.trimmed, FrameRates.{frame_rate_between, frame_rate_of}}
-use Rattle.mpd_values.specs.{FrameRates.is_read_rate, Numbers.{is_between, kept_if, number_between, number_of}}
-use Rattle.mpd_text.specs.{Trees.Element, Views.side_by_side}
-use Rattle.mpd_profile.specs.{declared.listed.Addressing.Addressing, declared.listed.Listed.Listed, declared.listed.Listed.TheVariants.Mpd}
-use Rattle.mpd_profile.specs.declared.listed.Listed.TheVariants.{Period, AdaptationSet, Representation}
-use Rattle.mpd_profile.specs.{declared.value.Value.TheVariants.{Duration, FrameRate, Number}, Elements.{child_of, value_of}, Heads.is_named}
-use Rattle.mpd_profile.specs.{Heads.value_named, LeftOut.is_left_out, Sound.{IsSound, IsSoundChild, parent_of}, Values.is_value}
+use Rattle.mpd_values.specs.{declared.blank.Blank.TheVariants.Space, Blanks.trimmed}
+use Rattle.mpd_values.specs.FrameRates.{frame_rate_between, frame_rate_of, is_read_rate}
+use Rattle.mpd_values.specs.Numbers.{is_between, kept_if, number_between, number_of}
+use Rattle.mpd_tree.specs.{Trees.Element, Views.side_by_side}
+use Rattle.mpd_profile.specs.{declared.listed.Addressing.Addressing, declared.listed.Listed.Listed}
+use Rattle.mpd_profile.specs.declared.listed.Listed.TheVariants.{Mpd, Period, AdaptationSet, Representation}
+use Rattle.mpd_profile.specs.{declared.value.Value.TheVariants.{Duration, FrameRate, Number}, Elements.{child_of, value_of}}
+use Rattle.mpd_profile.specs.{Heads.{is_named, value_named}, LeftOut.is_left_out, Sound.{IsSound, IsSoundChild, parent_of}, Values.is_value}
 use Rattle.mpd_profile.specs.Visits.{Parent}
 use Rattle.mpd_profile.proofs.Sound.{sound_children}
 use Rattle.mpd_levels.proofs.Fitting.{level_fits}

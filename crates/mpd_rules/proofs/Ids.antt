@@ -1,24 +1,25 @@
 -- The ids of the Periods of a dynamic MPD.
 use Rattle.std.proofs.Common.{◌≡◌, ℕ, ◌||◌, not, Bool, true, false, List, [], ◌∷◌, ◌++◌, All, map, Option, Some, None, refl, sym, ◌∙◌, ap}
 use Rattle.std.proofs.{Common.{subst, inl, inr}, lemmas.Bool.{and_parts, cases_Bool, or_parts}, lemmas.List.Concat.flat_map-append}
-use Rattle.std.proofs.{lemmas.List.Elements.{All-cons, All-head, All-map, All-nil, All-tail, All-weaker}, lemmas.List.Folds.list_any-append}
-use Rattle.std.proofs.lemmas.List.Folds.{list_any_none}
+use Rattle.std.proofs.lemmas.List.Elements.{All-cons, All-head, All-map, All-nil, All-tail, All-weaker}
+use Rattle.std.proofs.lemmas.List.Folds.{list_any-append, list_any_none}
 use Rattle.std.specs.Prelude.{bytes_eq, codes, filter, find, flat_map, if◌then◌else◌, is_none, is_some, option_map, unwrap_or}
 use Rattle.std.specs.List.{list_any}
 use Rattle.bridge_io.proofs.Texts.{same_bytes}
-use Rattle.mpd_text.specs.{Trees.{Attribute, Head, Forest, nothing, element, Element}, Views.{attribute_named, side_by_side}}
+use Rattle.mpd_tree.specs.{Trees.{Attribute, Head, Forest, nothing, element, Element}, Views.{attribute_named, side_by_side}}
 use Rattle.mpd_profile.specs.{declared.fault.RuleFault.RuleFault, declared.fault.RuleFault.TheVariants.{Missing, Value}}
 use Rattle.mpd_profile.specs.{declared.listed.Addressing.Addressing, declared.listed.Addressing.TheVariants.Segments as OneByOne}
 use Rattle.mpd_profile.specs.{declared.listed.Listed.Listed, declared.listed.Listed.TheVariants.{Mpd, Period}, Elements.child_of}
-use Rattle.mpd_profile.specs.{Heads.{is_dynamic, is_named}, LeftOut.is_left_out, Refusals.{attribute_told, feature_refusals, has_id}}
-use Rattle.mpd_profile.specs.Refusals.{has_no_type, is_other_value, is_repeated_id, is_same_id, lacks, refusals_of, required_of}
-use Rattle.mpd_profile.specs.{Refusals.{root_refusals, value_refusals, values_at}, Visits.{Parent, Visit, inside, parent_in, root_parent}}
-use Rattle.mpd_profile.specs.Visits.{root_visit, visits_in}
+use Rattle.mpd_profile.specs.{Heads.{is_dynamic, is_named}, LeftOut.is_left_out}
+use Rattle.mpd_profile.specs.Refusals.{attribute_told, feature_refusals, has_id, has_no_type, is_other_value, is_repeated_id, is_same_id}
+use Rattle.mpd_profile.specs.Refusals.{lacks, refusals_of, required_of, root_refusals, value_refusals, values_at}
+use Rattle.mpd_profile.specs.Visits.{Parent, Visit, inside, parent_in, root_parent, root_visit, visits_in}
 use Rattle.mpd_levels.specs.Segments.{Segments, segments_of}
-use Rattle.mpd_rules.specs.{declared.rows.PeriodRow.PeriodRow, Kept.{is_kept, periods_of}, Laws.{HaveOwnIds, PeriodIdsDiffer, are_once}}
-use Rattle.mpd_rules.specs.{Laws.ids_of, Periods.{bounds_from, end_said, first_start, start_of, timed_of, total_of}, Readings.id_of}
-use Rattle.mpd_rules.specs.{Rules.{all_refusals, dash_values, refusals_behind, segments_refused, typed_mpd_of}, Typed.{TypedMpd, period_of}}
-use Rattle.mpd_rules.specs.Typed.{values_with}
+use Rattle.mpd_rules.specs.{declared.rows.PeriodRow.PeriodRow, Kept.{is_kept, periods_of}}
+use Rattle.mpd_rules.specs.Laws.{HaveOwnIds, PeriodIdsDiffer, are_once, ids_of}
+use Rattle.mpd_rules.specs.{Periods.{bounds_from, end_said, first_start, start_of, timed_of, total_of}, Readings.id_of}
+use Rattle.mpd_rules.specs.Rules.{all_refusals, dash_values, refusals_behind, segments_refused, typed_mpd_of}
+use Rattle.mpd_rules.specs.Typed.{TypedMpd, period_of, values_with}
 use Rattle.mpd_rules.proofs.Refusing.{none_told}
 
 -- ---- nothing told

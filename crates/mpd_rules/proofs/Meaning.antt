@@ -1,19 +1,20 @@
 -- What is put together is what an MPD says.
-use Rattle.std.proofs.Common.{◌≡◌, ℕ, ◌+◌, ◌&&◌, Bool, true, false, Ok, List, [], ◌∷◌, ◌++◌, map, length, Option, Some, refl, sym, ap, ◌∙◌}
-use Rattle.std.proofs.{Common.append_assoc, lemmas.List.map-append, lemmas.List.Concat.flat_map-append, lemmas.List.Folds.flat_map-map}
-use Rattle.std.proofs.lemmas.Simd.{map-map}
+use Rattle.std.proofs.Common.{◌≡◌, ℕ, ◌+◌, ◌&&◌, Bool, true, false, Ok, List, [], ◌∷◌, ◌++◌, map, length, Option, Some, refl, sym, ap}
+use Rattle.std.proofs.{Common.{◌∙◌, append_assoc}, lemmas.List.map-append, lemmas.List.Concat.flat_map-append}
+use Rattle.std.proofs.{lemmas.List.Folds.flat_map-map, lemmas.Simd.map-map}
 use Rattle.std.specs.{Prelude.{codes, count_by, flat_map}, List.list_any}
 use Rattle.bridge_io.specs.declared.place.Place.{Place}
-use Rattle.mpd_text.specs.{Trees.Element, Views.side_by_side}
+use Rattle.mpd_tree.specs.{Trees.Element, Views.side_by_side}
 use Rattle.mpd_profile.specs.{declared.listed.Listed.TheVariants.Period, Heads.is_named, declared.fault.RuleFault.RuleFault}
 use Rattle.mpd_levels.specs.declared.tables.Tables.{Tables}
-use Rattle.mpd_rules.specs.{declared.rows.TrackRow.TrackRow, declared.rows.PeriodRow.PeriodRow, Built.{period_refused, periods_in}}
-use Rattle.mpd_rules.specs.{Built.{periods_refused, periods_shown, set_refused, set_tracks, sets_tracks}, declared.facts.Facts.Facts}
-use Rattle.mpd_rules.specs.{declared.periods.Bounds.Bounds, Held.{Held, Keyed, held_of, keyed}, Kept.{is_left, left_children, left_out_in}}
-use Rattle.mpd_rules.specs.{Kept.{path_in, paths_in, periods_of, representations_of, sets_of}, Periods.{bounds_from, bounds_of, end_said}}
-use Rattle.mpd_rules.specs.{Periods.{first_start, period_bounds, start_of, timed_of, timed_periods, total_of}, Rules.is_played}
-use Rattle.mpd_rules.specs.{Rules.{paths_told, refused_at, second_told, silence_in, silence_told, unless_refused}, Typed.bases_below}
-use Rattle.mpd_rules.specs.{Typed.{facts_of, period_of, period_with, track_of, track_with, values_with}, Views.mpd_shown}
+use Rattle.mpd_rules.specs.{declared.rows.TrackRow.TrackRow, declared.rows.PeriodRow.PeriodRow}
+use Rattle.mpd_rules.specs.Built.{period_refused, periods_in, periods_refused, periods_shown, set_refused, set_tracks, sets_tracks}
+use Rattle.mpd_rules.specs.{declared.facts.Facts.Facts, declared.periods.Bounds.Bounds, Held.{Held, Keyed, held_of, keyed}}
+use Rattle.mpd_rules.specs.Kept.{is_left, left_children, left_out_in, path_in, paths_in, periods_of, representations_of, sets_of}
+use Rattle.mpd_rules.specs.Periods.{bounds_from, bounds_of, end_said, first_start, period_bounds, start_of, timed_of, timed_periods}
+use Rattle.mpd_rules.specs.Periods.{total_of}
+use Rattle.mpd_rules.specs.Rules.{is_played, paths_told, refused_at, second_told, silence_in, silence_told, unless_refused}
+use Rattle.mpd_rules.specs.{Typed.{bases_below, facts_of, period_of, period_with, track_of, track_with, values_with}, Views.mpd_shown}
 use Rattle.mpd_rules.proofs.Refusing.{IsFirst, first_of_more}
 
 -- ---- what is refused

@@ -6,10 +6,10 @@ use Rattle.std.specs.{Prelude.{codes, drop, take, position, option_and_then, opt
 use Rattle.std.specs.{Str.Parse.digits_value, List.list_all}
 use Rattle.url_parts.specs.{declared.range.Range.Range, Ranges.{place_of, range_at, range_between, range_of}}
 use Rattle.mpd_values.specs.{declared.blank.Blank.TheVariants.Space, Blanks.trimmed}
-use Rattle.mpd_text.specs.Trees.{Element}
+use Rattle.mpd_tree.specs.Trees.{Element}
 use Rattle.mpd_profile.specs.Heads.{or_else, value_named}
-use Rattle.mpd_levels.specs.{declared.indexed.IndexRow.IndexRow, declared.level.Means.Means, Indexed.{base_in, index_by, index_in}}
-use Rattle.mpd_levels.specs.{Indexed.index_of, Levels.{base_name, used}, Readings.{child_named, range_in}}
+use Rattle.mpd_levels.specs.{declared.indexed.IndexRow.IndexRow, declared.level.Means.Means}
+use Rattle.mpd_levels.specs.{Indexed.{base_in, index_by, index_in, index_of}, Levels.{base_name, used}, Readings.{child_named, range_in}}
 use Rattle.mpd_rules.specs.Ranges.{IsSomeBytes}
 
 third : (a b c : Bool) → (a && b && c) ≡ true → c ≡ true

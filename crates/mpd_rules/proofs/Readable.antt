@@ -4,11 +4,12 @@ use Rattle.std.specs.{Prelude.{codes, option_and_then, IfOk}, Result.result_ok}
 use Rattle.iso_time.specs.{Instant.{IsReadable, instant_of}, declared.instant.InstantFault.InstantFault}
 use Rattle.iso_time.proofs.InstantLemmas.{readable}
 use Rattle.mpd_values.specs.{declared.blank.Blank.TheVariants.Space, Blanks.trimmed}
-use Rattle.mpd_text.specs.Trees.{Head}
+use Rattle.mpd_tree.specs.Trees.{Head}
 use Rattle.mpd_profile.specs.{Heads.value_named, declared.listed.Addressing.TheVariants.Segments as OneByOne, Refusals.refusals_of}
 use Rattle.mpd_levels.specs.Segments.{Segments, segments_of}
-use Rattle.mpd_rules.specs.{Laws.StartsAreReadable, Readings.{instant_in, instant_named}, Rules.{all_refusals, dash_values}}
-use Rattle.mpd_rules.specs.{Rules.{refusals_behind, segments_refused, typed_mpd_of}, Typed.{TypedMpd, values_with}}
+use Rattle.mpd_rules.specs.{Laws.StartsAreReadable, Readings.{instant_in, instant_named}}
+use Rattle.mpd_rules.specs.Rules.{all_refusals, dash_values, refusals_behind, segments_refused, typed_mpd_of}
+use Rattle.mpd_rules.specs.Typed.{TypedMpd, values_with}
 use Rattle.mpd_rules.proofs.Refusing.{none_told}
 
 ok_readable : (r : Result ℤ InstantFault) → IfOk r IsReadable → IfSome (result_ok r) IsReadable

@@ -1,12 +1,12 @@
 -- Representations and Periods one by one, as they are put together from above.
 use Rattle.std.specs.Prelude.{ℕ, ◌+◌, Bool, List, [], ◌∷◌, ◌++◌, map, flat_map, Option, Some}
 use Rattle.bridge_io.specs.declared.place.Place.{Place}
-use Rattle.mpd_text.specs.Trees.{Element}
+use Rattle.mpd_tree.specs.Trees.{Element}
 use Rattle.mpd_profile.specs.declared.fault.RuleFault.{RuleFault}
 use Rattle.mpd_levels.specs.declared.tables.Tables.{Tables}
 use Rattle.mpd_rules.specs.{declared.periods.Bounds.Bounds, declared.rows.TrackRow.TrackRow, declared.rows.PeriodRow.PeriodRow}
-use Rattle.mpd_rules.specs.{Kept.{representations_of, sets_of}, Readings.id_of, Rules.second_told, Typed.{bases_below, common_of}}
-use Rattle.mpd_rules.specs.Typed.{period_with, track_in, track_with}
+use Rattle.mpd_rules.specs.{Kept.{representations_of, sets_of}, Readings.id_of, Rules.second_told}
+use Rattle.mpd_rules.specs.Typed.{bases_below, common_of, period_with, track_in, track_with}
 
 -- ---- what rows show
 

@@ -1,9 +1,10 @@
 -- Values within the bounds that each attribute has: reading with its bound gives what reading without one gives.
 use Rattle.std.specs.{Prelude.{◌≡◌, ℕ, List, codes}, List.All}
-use Rattle.mpd_text.specs.Trees.{Head, Element}
+use Rattle.mpd_tree.specs.Trees.{Head, Element}
 use Rattle.mpd_levels.specs.{Fits.FitsLevel, Readings.number_named}
-use Rattle.mpd_rules.specs.{Kept.{periods_of, representations_of, sets_of}, Readings.{duration_named, duration_within_named}}
-use Rattle.mpd_rules.specs.Readings.{frame_rate_named, frame_rate_within_named, number_within_named}
+use Rattle.mpd_rules.specs.Kept.{periods_of, representations_of, sets_of}
+use Rattle.mpd_rules.specs.Readings.{duration_named, duration_within_named, frame_rate_named, frame_rate_within_named}
+use Rattle.mpd_rules.specs.Readings.{number_within_named}
 
 -- an attribute that isn't there fits too
 abbrev pub FitsDuration : List ℕ → Head → Type 0

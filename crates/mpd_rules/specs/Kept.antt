@@ -1,7 +1,7 @@
 -- The Periods, sets and Representations that are kept, in document order, and what is left out.
 use Rattle.mpd_profile.specs.declared.listed.Listed.TheVariants as listed
 use Rattle.std.specs.Prelude.{ℕ, ◌+◌, ◌&&◌, not, Bool, List, [], ◌∷◌, ◌++◌, map, filter, sum_by, count_by, codes, Some}
-use Rattle.mpd_text.specs.{Trees.{Head, Element}, Views.side_by_side}
+use Rattle.mpd_tree.specs.{Trees.{Head, Element}, Views.side_by_side}
 use Rattle.mpd_profile.specs.{declared.listed.Listed.Listed, Heads.is_named, LeftOut.is_left_out}
 
 -- ---- the children of one name

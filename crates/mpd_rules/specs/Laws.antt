@@ -2,7 +2,7 @@
 use Rattle.std.specs.Prelude.{◌≡◌, ℕ, ◌&&◌, not, Bool, true, List, [], ◌∷◌, map, bytes_eq, is_some, All, IfSome, Option, Ok, unwrap_or}
 use Rattle.std.specs.List.{list_any}
 use Rattle.iso_time.specs.Instant.{IsReadable}
-use Rattle.mpd_text.specs.Trees.{Element}
+use Rattle.mpd_tree.specs.Trees.{Element}
 use Rattle.mpd_levels.specs.Segments.{Segments}
 use Rattle.mpd_rules.specs.{declared.rows.PeriodRow.PeriodRow, Rules.typed_mpd_of, Typed.TypedMpd}
 

@@ -2,7 +2,7 @@
 use Rattle.std.specs.Prelude.{ℕ, ◌+◌, ◌^◌, ◌||◌, nat_le, Bool, false, List, [], ◌∷◌, ◌++◌, map, codes, if◌then◌else◌, Option, Some, None}
 use Rattle.std.specs.Prelude.{Result, Ok, Err, unwrap_or}
 use Rattle.bridge_io.specs.declared.place.Place.{Place}
-use Rattle.mpd_text.specs.Trees.{Head, Element}
+use Rattle.mpd_tree.specs.Trees.{Head, Element}
 use Rattle.mpd_profile.specs.{declared.fault.RuleFault.RuleFault, declared.fault.RuleFault.TheVariants.{NoStart, PeriodOrder}}
 use Rattle.mpd_profile.specs.Heads.{is_dynamic, or_else}
 use Rattle.mpd_rules.specs.{declared.periods.Bounds.Bounds, Kept.periods_of, Readings.duration_named}

@@ -2,9 +2,9 @@
 use Rattle.std.specs.Prelude.{ℕ, ℤ, ◌==◌, ◌^◌, List, codes, if◌then◌else◌, Option, Some, None, option_map, option_and_then}
 use Rattle.std.specs.Result.{result_ok}
 use Rattle.iso_time.specs.{Duration.{DurationParts, duration_of, months_of, nanos_of, parts_of}, Instant.instant_of}
-use Rattle.mpd_values.specs.{declared.blank.Blank.TheVariants.{Space, SpaceOrLineEnd}, Blanks.trimmed, FrameRates.frame_rate_between}
-use Rattle.mpd_values.specs.{FrameRates.frame_rate_of, Numbers.number_between}
-use Rattle.mpd_text.specs.Trees.{Head, Element}
+use Rattle.mpd_values.specs.{declared.blank.Blank.TheVariants.{Space, SpaceOrLineEnd}, Blanks.trimmed}
+use Rattle.mpd_values.specs.{FrameRates.{frame_rate_between, frame_rate_of}, Numbers.number_between}
+use Rattle.mpd_tree.specs.Trees.{Head, Element}
 use Rattle.mpd_profile.specs.Heads.{value_named}
 use Rattle.mpd_levels.specs.Readings.{child_named}
 

@@ -1,15 +1,16 @@
 -- An MPD's values, or the first refusal.
 use Rattle.mpd_profile.specs.declared.listed.Addressing.TheVariants as addressing
-use Rattle.std.specs.Prelude.{ℕ, ◌+◌, ◌==◌, ◌||◌, not, Bool, true, false, List, [], ◌∷◌, ◌++◌, flat_map, if◌then◌else◌, Option, Some, None}
-use Rattle.std.specs.{Prelude.{Result, Ok, Err}, List.list_any}
+use Rattle.std.specs.Prelude.{ℕ, ◌+◌, ◌==◌, ◌||◌, not, Bool, true, false, List, [], ◌∷◌, ◌++◌, flat_map, if◌then◌else◌, Option, Some}
+use Rattle.std.specs.{Prelude.{None, Result, Ok, Err}, List.list_any}
 use Rattle.bridge_io.specs.{declared.media.Kind.Kind, declared.media.Kind.TheVariants.{Video, Audio, Text}, declared.place.Place.Place}
-use Rattle.mpd_text.specs.Trees.{Element}
-use Rattle.mpd_profile.specs.{declared.fault.RuleFault.RuleFault, declared.fault.RuleFault.TheVariants.{Missing, Unsupported, IndexNeeded}}
-use Rattle.mpd_profile.specs.{declared.fault.RuleFault.TheVariants.NoTracks, Heads.is_dynamic, Refusals.refusals_of}
-use Rattle.mpd_levels.specs.{declared.indexed.IndexRow.IndexRow, Segments.{Segments, segments_of, is_incomplete}, Indexed.index_of}
-use Rattle.mpd_levels.specs.Indexed.{lacks_index}
-use Rattle.mpd_rules.specs.{declared.rows.TrackRow.TrackRow, declared.rows.PeriodRow.PeriodRow, Kept.{Path, levels_of, paths_of}}
-use Rattle.mpd_rules.specs.{Kept.periods_of, Periods.period_refusals, Typed.{TypedMpd, values_with}}
+use Rattle.mpd_tree.specs.Trees.{Element}
+use Rattle.mpd_profile.specs.declared.fault.RuleFault.{RuleFault}
+use Rattle.mpd_profile.specs.{declared.fault.RuleFault.TheVariants.{Missing, Unsupported, IndexNeeded, NoTracks}, Heads.is_dynamic}
+use Rattle.mpd_profile.specs.Refusals.{refusals_of}
+use Rattle.mpd_levels.specs.{declared.indexed.IndexRow.IndexRow, Segments.{Segments, segments_of, is_incomplete}}
+use Rattle.mpd_levels.specs.Indexed.{index_of, lacks_index}
+use Rattle.mpd_rules.specs.{declared.rows.TrackRow.TrackRow, declared.rows.PeriodRow.PeriodRow}
+use Rattle.mpd_rules.specs.{Kept.{Path, levels_of, paths_of, periods_of}, Periods.period_refusals, Typed.{TypedMpd, values_with}}
 
 -- ---- Representations, in document order
 

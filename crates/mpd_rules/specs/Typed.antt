@@ -2,7 +2,7 @@
 use Rattle.std.specs.Prelude.{ℕ, List, [], ◌∷◌, ◌++◌, map, codes, Option, Some, None, unwrap_or}
 use Rattle.bridge_io.specs.{declared.media.Kind.Kind, declared.media.Kind.TheVariants.Video, declared.media.Size.Size}
 use Rattle.mpd_values.specs.MediaTypes.{kind_of}
-use Rattle.mpd_text.specs.Trees.{Head, Element}
+use Rattle.mpd_tree.specs.Trees.{Head, Element}
 use Rattle.mpd_profile.specs.Heads.{is_dynamic, or_else, value_named}
 use Rattle.mpd_levels.specs.Readings.{number_named}
 use Rattle.mpd_rules.specs.{declared.facts.Facts.Facts, declared.common.Common.Common, declared.rows.Description.Description}

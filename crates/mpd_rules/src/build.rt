@@ -3,8 +3,8 @@ ghost use Rattle.std.specs.Prelude.{◌≡◌, ◌+◌, ◌∷◌, ◌++◌, Boo
 ghost use Rattle.std.specs.List.{All};
 ghost use Rattle.bridge_io.specs.Answer.{Gives};
 ghost use Rattle.bridge_io.specs.Firsts.{first_fault};
-ghost use Rattle.mpd_text.specs.Nodes.{element_of};
-ghost use Rattle.mpd_text.specs.Trees.{Element};
+ghost use Rattle.mpd_tree.specs.Nodes.{element_of};
+ghost use Rattle.mpd_tree.specs.Trees.{Element};
 ghost use Rattle.mpd_profile.specs.Refusals.{refusal};
 ghost use Rattle.mpd_levels.specs.declared.tables.Tables.{Tables};
 ghost use Rattle.mpd_levels.specs.Shown.{Grows, Says};
@@ -23,11 +23,11 @@ use crate::rows::{PeriodRow, TrackRow};
 use bridge_io::{Place, Sequence};
 use mpd_levels::{Level, SharedText, Tables};
 use mpd_profile::{Listed, RuleFault};
-use mpd_text::Node;
+use mpd_tree::Node;
 use std::alloc::Global;
 
 /// What grows while an MPD's values are put together.
-#[derive(Debug, Drop)]
+#[derive(Drop)]
 pub(crate) struct Building {
     pub(crate) tables: Tables,
     /// Where each set or Representation stands that is left out.
@@ -35,7 +35,7 @@ pub(crate) struct Building {
 }
 
 /// What a Period says for its sets.
-#[derive(Debug, Drop)]
+#[derive(Drop)]
 struct Above {
     level: Level,
     /// The first BaseURL of the MPD and of the Period.

@@ -1,11 +1,11 @@
 // The Periods, sets and Representations that are kept.
 ghost use Rattle.std.specs.Prelude.{◌≡◌, ◌+◌, IfOk, OnOk, length, map};
-ghost use Rattle.mpd_text.specs.Nodes.{element_of};
+ghost use Rattle.mpd_tree.specs.Nodes.{element_of};
 ghost use Rattle.mpd_rules.specs.Kept as spec;
 
 use bridge_io::{NoMemory, Place, Sequence};
 use mpd_profile::{Listed, is_left_out, value_named};
-use mpd_text::Node;
+use mpd_tree::Node;
 use std::alloc::Global;
 
 /// The children of a name that are kept, which are read as `listed`. Each one that is left out is added to the others.

@@ -1,6 +1,6 @@
 // What a set says for its Representations.
 ghost use Rattle.std.specs.Prelude.{◌≡◌, IfOk};
-ghost use Rattle.mpd_text.specs.Nodes.{element_of};
+ghost use Rattle.mpd_tree.specs.Nodes.{element_of};
 ghost use Rattle.mpd_rules.specs.Fits.{FitsCommon, FitsTrack};
 ghost use Rattle.mpd_rules.specs.Typed as spec;
 
@@ -10,12 +10,12 @@ use crate::rows::Description;
 use bridge_io::{Kind, NoMemory, Sequence, Size, Text};
 use mpd_levels::{SharedText, share_text};
 use mpd_profile::value_named;
-use mpd_text::Node;
+use mpd_tree::Node;
 use mpd_values::kind_of;
 use std::alloc::Global;
 
 /// What a set says for its Representations (ISO/IEC 23009-1, 5.3.7.1).
-#[derive(Debug, Drop)]
+#[derive(Drop)]
 pub(crate) struct Common {
     /// Its place among the Period's kept sets.
     pub(crate) place: usize,

@@ -1,6 +1,6 @@
 // What an MPD says of itself.
 ghost use Rattle.std.specs.Prelude.{◌≡◌};
-ghost use Rattle.mpd_text.specs.Nodes.{element_of};
+ghost use Rattle.mpd_tree.specs.Nodes.{element_of};
 ghost use Rattle.mpd_rules.specs.Fits.{FitsMpd};
 ghost use Rattle.mpd_rules.specs.Typed.{facts_of};
 
@@ -8,10 +8,10 @@ use crate::readings::{duration, instant};
 use exact_time::Nanos;
 use iso_time::Instant;
 use mpd_profile::is_dynamic;
-use mpd_text::Node;
+use mpd_tree::Node;
 
 /// What an MPD says of itself (ISO/IEC 23009-1, 5.3.1.2).
-#[derive(Clone, Copy, Debug)]
+#[derive(Clone, Copy)]
 pub(crate) struct Facts {
     pub(crate) live: bool,
     pub(crate) availability_start: Option<Instant>,

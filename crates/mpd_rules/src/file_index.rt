@@ -6,7 +6,7 @@ use mpd_levels::{IndexRow, InitView};
 use url_parts::Range;
 
 /// Where a file's index lies, and its initialization part (ISO/IEC 23009-1, 5.3.9.2).
-#[derive(Debug, Drop)]
+#[derive(Drop)]
 pub struct FileIndex {
     range: Range,
     row: IndexRow,

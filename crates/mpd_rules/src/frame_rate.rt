@@ -6,7 +6,7 @@ use bridge_io::Ratio;
 use std::marker::Model;
 
 /// A frame rate. In a contract it is the pair of its numbers.
-#[derive(Debug, Drop)]
+#[derive(Drop)]
 pub(crate) struct FrameRate {
     ratio: Ratio,
 }

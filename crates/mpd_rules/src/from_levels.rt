@@ -3,7 +3,7 @@ ghost use Rattle.std.specs.Prelude.{◌≡◌, IfOk, List, Option, Some};
 ghost use Rattle.bridge_io.specs.Answer.{Gives};
 ghost use Rattle.bridge_io.specs.Firsts.{first_fault};
 ghost use Rattle.bridge_io.specs.declared.place.Place.{Place};
-ghost use Rattle.mpd_text.specs.Trees.{Element};
+ghost use Rattle.mpd_tree.specs.Trees.{Element};
 ghost use Rattle.mpd_profile.specs.declared.fault.RuleFault.{RuleFault};
 ghost use Rattle.mpd_profile.specs.Refusals.{refusal};
 ghost use Rattle.mpd_levels.specs.declared.indexed.IndexRow.{IndexRow};

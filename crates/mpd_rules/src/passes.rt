@@ -1,7 +1,7 @@
 // The rules.
 ghost use Rattle.std.specs.Prelude.{◌≡◌, flat_map};
 ghost use Rattle.bridge_io.specs.Answer.{Gives};
-ghost use Rattle.mpd_text.specs.Nodes.{element_of, root_of};
+ghost use Rattle.mpd_tree.specs.Nodes.{element_of, root_of};
 ghost use Rattle.mpd_profile.specs.Refusals.{refusal};
 ghost use Rattle.mpd_rules.specs.Fits.{FitsMpd};
 ghost use Rattle.mpd_rules.specs.Rules.{indexed_mpd_of, refusals_behind, typed_mpd_of, unless_refused, silence_in, silence_told};
@@ -21,7 +21,7 @@ use crate::typed::TypedMpd;
 use bridge_io::{Kind, Place, Sequence};
 use mpd_levels::{SegmentRow, Tables};
 use mpd_profile::{Addressing, Listed, RuleFault, check, is_dynamic};
-use mpd_text::{Node, Tree};
+use mpd_tree::{Node, Tree};
 use std::alloc::Global;
 
 /// The values of an MPD whose segments are told one by one, or the first refusal.

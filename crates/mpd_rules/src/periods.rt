@@ -2,7 +2,7 @@
 ghost use Rattle.std.specs.Prelude.{◌≡◌, Some, map};
 ghost use Rattle.std.specs.List.{All};
 ghost use Rattle.bridge_io.specs.Answer.{Gives};
-ghost use Rattle.mpd_text.specs.Nodes.{element_of};
+ghost use Rattle.mpd_tree.specs.Nodes.{element_of};
 ghost use Rattle.mpd_profile.specs.Refusals.{refusal};
 ghost use Rattle.mpd_rules.specs.Fits.{FitsMpd, FitsPeriod};
 ghost use Rattle.mpd_rules.specs.Kept.{periods_of};
@@ -13,14 +13,14 @@ use crate::readings::duration;
 use bridge_io::{Place, Sequence};
 use exact_time::Nanos;
 use mpd_profile::{RuleFault, is_dynamic};
-use mpd_text::Node;
+use mpd_tree::Node;
 use std::alloc::Global;
 
 /// The first time that is too late, in nanoseconds.
 const LATE: u128 = 10_000_000_000_000_000_000;
 
 /// When a Period begins, and when it ends: an open one has no end.
-#[derive(Clone, Copy, Debug)]
+#[derive(Clone, Copy)]
 pub(crate) struct Bounds {
     pub(crate) start: Nanos,
     pub(crate) end: Option<Nanos>,

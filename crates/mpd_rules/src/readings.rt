@@ -1,6 +1,6 @@
 // What attributes denote.
 ghost use Rattle.std.specs.Prelude.{◌≡◌, IfOk, option_map};
-ghost use Rattle.mpd_text.specs.Nodes.{element_of};
+ghost use Rattle.mpd_tree.specs.Nodes.{element_of};
 ghost use Rattle.mpd_profile.specs.Heads.{value_named};
 ghost use Rattle.mpd_rules.specs.Readings as spec;
 
@@ -10,7 +10,7 @@ use exact_time::Nanos;
 use iso_time::{Instant, read_duration, read_instant};
 use mpd_levels::SharedText;
 use mpd_profile::value_named;
-use mpd_text::Node;
+use mpd_tree::Node;
 use mpd_values::{Blank, read_frame_rate, read_number, trimmed};
 use std::alloc::Global;
 

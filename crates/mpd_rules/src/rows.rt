@@ -5,7 +5,7 @@ use bridge_io::{Kind, Place, Sequence, Size, Text};
 use mpd_levels::SharedText;
 
 /// What a Representation says together with the levels above it, but for its segments.
-#[derive(Debug, Drop)]
+#[derive(Drop)]
 pub(crate) struct Description {
     pub(crate) kind: Kind,
     /// The place of its set among the Period's kept sets.
@@ -23,14 +23,14 @@ pub(crate) struct Description {
 }
 
 /// A Representation that is kept. Its segments are told by an `X`.
-#[derive(Debug, Drop)]
+#[derive(Drop)]
 pub(crate) struct TrackRow<X> {
     pub(crate) description: Description,
     pub(crate) segments: X,
 }
 
 /// A Period, with its Representations that are kept.
-#[derive(Debug, Drop)]
+#[derive(Drop)]
 pub(crate) struct PeriodRow<X> {
     pub(crate) id: Option<Text>,
     pub(crate) bounds: Bounds,

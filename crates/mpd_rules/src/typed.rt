@@ -11,7 +11,7 @@ use mpd_levels::Tables;
 use std::marker::Model;
 
 /// The values of an MPD as they hold for each Representation that is kept. `X` is how their segments are told.
-#[derive(Debug, Drop)]
+#[derive(Drop)]
 pub struct TypedMpd<X> {
     facts: Facts,
     // Where each set or Representation stands that is left out.

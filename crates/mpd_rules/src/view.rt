@@ -9,35 +9,35 @@ use mpd_levels::{Addressing, InitView, SegmentRow, SharedText, Tables};
 use url_parts::Range;
 
 /// The Periods of an MPD, in order.
-#[derive(Debug, Drop)]
+#[derive(Drop)]
 pub struct PeriodWalk<'a, X> {
     tables: &'a Tables,
     rest: &'a [PeriodRow<X>],
 }
 
 /// A Period.
-#[derive(Debug, Drop)]
+#[derive(Drop)]
 pub struct TypedPeriod<'a, X> {
     tables: &'a Tables,
     row: &'a PeriodRow<X>,
 }
 
 /// The Representations of a Period that are kept, in document order.
-#[derive(Debug, Drop)]
+#[derive(Drop)]
 pub struct RepWalk<'a, X> {
     tables: &'a Tables,
     rest: &'a [TrackRow<X>],
 }
 
 /// A Representation that is kept.
-#[derive(Debug, Drop)]
+#[derive(Drop)]
 pub struct TrackView<'a, X> {
     tables: &'a Tables,
     row: &'a TrackRow<X>,
 }
 
 /// The references of the BaseURLs that hold for a Representation, from the MPD down.
-#[derive(Debug, Drop)]
+#[derive(Drop)]
 pub struct BaseWalk<'a> {
     rest: &'a [SharedText],
 }

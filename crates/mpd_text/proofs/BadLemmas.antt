@@ -3,7 +3,8 @@ use Rattle.std.proofs.Common.{◌≢◌, ◌==◌, ◌||◌, ◌≡◌, ℕ, Boo
 use Rattle.std.proofs.{Common.{Option, Some, None, option_map, position, refl, arith, if◌then◌else◌}, lemmas.Bool.Decides.nat_tests}
 use Rattle.std.proofs.{lemmas.Grind.common_steps, lemmas.List.get_or-drop}
 use Rattle.byte_scan.specs.Class.{is_low_control}
-use Rattle.mpd_text.specs.Characters.{begins_with_noncharacter, begins_with_bad_character, first_bad_character, IsFirstNoncharacter, lesser}
+use Rattle.mpd_tree.specs.Characters.{begins_with_noncharacter, begins_with_bad_character, first_bad_character, IsFirstNoncharacter}
+use Rattle.mpd_tree.specs.Characters.{lesser}
 
 -- of the first control and the first noncharacter the one that comes first
 position_cons : (p : ℕ → Bool) (b : ℕ) (bs : List ℕ) → position p (b ∷ bs) ≡ (if p b then Some 0 else option_map suc (position p bs))

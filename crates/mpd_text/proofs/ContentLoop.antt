@@ -1,12 +1,12 @@
 -- How content goes on, step by step.
-use Rattle.mpd_text.specs.Grammar as grammar
+use Rattle.mpd_tree.specs.Grammar as grammar
 use Rattle.std.proofs.Common.{◌≡◌, ℕ, suc, ◌+◌, ◌-◌, List, [], ◌∷◌, ◌++◌, length, take, drop, IfSome, Result, Ok, Err, refl, sym, ap, ◌∙◌}
 use Rattle.std.proofs.{Common.{arith, append_assoc}, lemmas.List.{length-append, append-nil}}
-use Rattle.mpd_text.specs.{declared.kept.Kept.Kept, declared.stop.Stop.Stop, declared.stop.Fault.Fault, Forests.{Shown, flat}}
-use Rattle.mpd_text.specs.Keeping.{content_step, element_at, shown_in}
-use Rattle.mpd_text.specs.{Marked.marked_in_content, Rests.IsBehind, Runs.plain_at, Reading.fault_in, Pieces.{Piece, Inside, ended}}
-use Rattle.mpd_text.specs.{Pieces.followed_by, Productions.{◌>>=◌, Production, further, times}, Trees.{Forest, Head, nothing}}
-use Rattle.mpd_text.specs.{Trees.element, Grammar.{text as text_of, marked, tag, end_tag, piece, added, next_inside, inside}}
+use Rattle.mpd_text.specs.{declared.kept.Kept.Kept, Keeping.{content_step, element_at, shown_in}, Rests.IsBehind}
+use Rattle.mpd_tree.specs.{declared.stop.Stop.Stop, declared.stop.Fault.Fault, Forests.{Shown, flat}, Marked.marked_in_content}
+use Rattle.mpd_tree.specs.{Runs.plain_at, Reading.fault_in, Pieces.{Piece, Inside, ended, followed_by}}
+use Rattle.mpd_tree.specs.{Productions.{◌>>=◌, Production, further, times}, Trees.{Forest, Head, nothing, element}}
+use Rattle.mpd_tree.specs.Grammar.{text as text_of, marked, tag, end_tag, piece, added, next_inside, inside}
 use Rattle.mpd_text.proofs.{Flat.joined, Loop.failed, Rests.tail_is}
 
 -- with so many steps left

@@ -1,6 +1,6 @@
 -- Rows that show elements side by side, and more of them behind.
 use Rattle.std.proofs.{Common.{◌≡◌, ℕ, suc, ◌+◌, ◌++◌, length, ap, arith, append_assoc, refl}, lemmas.List.length-append}
-use Rattle.mpd_text.specs.{Forests.flat, Pieces.followed_by, Trees.{Forest, nothing, element}}
+use Rattle.mpd_tree.specs.{Forests.flat, Pieces.followed_by, Trees.{Forest, nothing, element}}
 
 -- more of them behind
 pub joined : (f g : Forest) (at : ℕ) → flat at (followed_by f g) ≡ flat at f ++ flat (at + length (flat at f)) g

@@ -1,20 +1,22 @@
 -- Rows that are kept stay so, and show the same, where more is kept.
-use Rattle.std.proofs.Common.{◌≡◌, ℕ, ◌+◌, ◌-◌, ◌<◌, ◌≤◌, List, [], ◌∷◌, ◌++◌, length, take, drop, map, set, refl, sym, ap, ◌∙◌}
-use Rattle.std.proofs.{Common.{subst, arith, append_assoc, if◌then◌else◌, is_ok, get_or, OnOk, OnErr, Result, Ok, Err, Some}}
-use Rattle.std.proofs.{Math.Seq.{get_or-append_seam, set-append_seam}, lemmas.List.{append-nil, drop-append-le, length-append, length-map}}
-use Rattle.std.proofs.lemmas.List.{drop_at, take_at, take_all, take-append-drop, length-drop, map-append, map-set, drop-map, get_or-map}
-use Rattle.std.proofs.{lemmas.List.Elements.{All-drop, All-take, All-weaker}, lemmas.Str.{IsCharBoundary-at_seam, IsCharBoundary-end}}
-use Rattle.std.proofs.lemmas.Str.{IsCharBoundary-start, IsUtf8-append, IsUtf8-had, IsUtf8-string_bytes}
-use Rattle.std.proofs.lemmas.Option.{get_or_from_slice_get, slice_get_within}
+use Rattle.std.proofs.Common.{◌≡◌, ℕ, ◌+◌, ◌-◌, ◌<◌, ◌≤◌, List, [], ◌∷◌, ◌++◌, length, take, drop, map, set, refl, sym, ap, ◌∙◌, subst}
+use Rattle.std.proofs.Common.{arith, append_assoc, if◌then◌else◌, is_ok, get_or, OnOk, OnErr, Result, Ok, Err, Some}
+use Rattle.std.proofs.Math.Seq.{get_or-append_seam, set-append_seam}
+use Rattle.std.proofs.lemmas.List.{append-nil, drop-append-le, length-append, length-map, drop_at, take_at, take_all, take-append-drop}
+use Rattle.std.proofs.lemmas.List.{length-drop, map-append, map-set, drop-map, get_or-map}
+use Rattle.std.proofs.lemmas.List.Elements.{All-drop, All-take, All-weaker}
+use Rattle.std.proofs.lemmas.Str.{IsCharBoundary-at_seam, IsCharBoundary-end, IsCharBoundary-start, IsUtf8-append, IsUtf8-had}
+use Rattle.std.proofs.{lemmas.Str.IsUtf8-string_bytes, lemmas.Option.{get_or_from_slice_get, slice_get_within}}
 use Rattle.std.specs.{List.{All, slice_get, slice_range}, String.string_bytes, Str.{IsUtf8, IsCharBoundary}}
-use Rattle.mpd_text.specs.{declared.tree.KeptSpan.KeptSpan, declared.tree.ElementRow.ElementRow, declared.tree.AttributeRow.AttributeRow}
-use Rattle.mpd_text.specs.{Forests.{Shown, shown_of}, declared.kept.Kept.Kept, Trees.{names_of, Attribute}, Keeping.{Adds, attributes_from}}
-use Rattle.mpd_text.specs.{Keeping.{attributes_in, head_at, kept_of, names_from, shown_in}, Names.{name_in, names_in}, Runs.ends_name}
-use Rattle.mpd_text.specs.{Positions.place_before, Rests.{IsBehind, IsEnd}, Rows.{HasAttributesWithin, IsKept, IsNameKept, IsElementKept}}
-use Rattle.mpd_text.specs.{Rows.IsAttributeKept, Runs.name_at, Views.{bytes_of, attribute_of, head_of}, ManyNames.IsPrepared}
+use Rattle.mpd_tree.specs.{declared.tree.KeptSpan.KeptSpan, declared.tree.ElementRow.ElementRow, declared.tree.AttributeRow.AttributeRow}
+use Rattle.mpd_tree.specs.{Forests.{Shown, shown_of}, Trees.{names_of, Attribute}, Runs.{ends_name, name_at}, Positions.place_before}
+use Rattle.mpd_tree.specs.Rows.{HasAttributesWithin, IsKept, IsNameKept, IsElementKept, IsAttributeKept}
+use Rattle.mpd_tree.specs.Views.{bytes_of, attribute_of, head_of}
+use Rattle.mpd_text.specs.{declared.kept.Kept.Kept, Keeping.{Adds, attributes_from, attributes_in, head_at, kept_of, names_from, shown_in}}
+use Rattle.mpd_text.specs.{Names.{name_in, names_in}, Rests.{IsBehind, IsEnd}, ManyNames.IsPrepared}
 use Rattle.mpd_text.specs.declared.many_names.ManyNames.{ManyNames}
-use Rattle.mpd_text.proofs.{Cuts.run_stops, KeptLemmas.{boundary_kept, kept_more, name_kept_more, range_left}, Rests.BeginsAscii}
-use Rattle.mpd_text.proofs.Rests.{behind_within, cut_before, cut_behind, ends, ends_drop, ends_dropped, name_ends}
+use Rattle.mpd_text.proofs.Rests.{BeginsAscii, behind_within, cut_before, cut_behind, ends, ends_drop, ends_dropped, name_ends}
+use Rattle.mpd_tree.proofs.{Cuts.run_stops, KeptLemmas.{boundary_kept, kept_more, name_kept_more, range_left}}
 use Rattle.bridge_io.specs.Places.{place_of}
 
 kept_utf8 : (k : Kept) → IsUtf8 (kept_of k)
@@ -245,9 +247,6 @@ set_shown f rows at row new before inner s is all len =
       ap f (sym (get_or_from_slice_get rows at row row is)) ∙ sym (get_or-map f rows at row s (slice_get_within rows at row is))
           ∙ ap (λ l. get_or l at s) all ∙ got,
     )
-
-pub all_at : {X : Type 0} (P : X → Type 0) (xs : List X) (k : ℕ) (x : X) → All P xs → slice_get xs k ≡ Some x → P x
-all_at P xs k x all is = subst P (get_or_from_slice_get xs k x x is) (all k x (slice_get_within xs k x is))
 
 -- ---- rows that are added
 

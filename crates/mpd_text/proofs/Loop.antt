@@ -1,8 +1,8 @@
 -- How a loop over steps goes on and ends: so many steps are left, and what they give is what all give.
-use Rattle.mpd_text.specs.declared.stop.Stop.TheVariants as stops
+use Rattle.mpd_tree.specs.declared.stop.Stop.TheVariants as stops
 use Rattle.std.proofs.Common.{◌≡◌, ℕ, suc, ◌+◌, ◌-◌, ◌<◌, ◌≤◌, Bool, List, [], IfSome, Result, Ok, Err, refl, sym, ap, ◌∙◌, arith}
-use Rattle.mpd_text.specs.{declared.stop.Fault.Fault, declared.stop.Stop.Stop, Positions.syntax, Reading.fault_in}
-use Rattle.mpd_text.specs.Productions.{◌>>=◌, Production, further, times}
+use Rattle.mpd_tree.specs.{declared.stop.Fault.Fault, declared.stop.Stop.Stop, Positions.syntax, Reading.fault_in}
+use Rattle.mpd_tree.specs.Productions.{◌>>=◌, Production, further, times}
 
 -- a step that failed, and one that did not
 pub failed : {A B : Type 0} (e : Stop) (step : Result B Fault) (more : B → Result A Fault) (total : Result A Fault)

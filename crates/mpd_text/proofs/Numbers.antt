@@ -1,8 +1,8 @@
 -- Numbers of characters, of which the code counts no further than one past all.
 use Rattle.std.proofs.Common.{◌≡◌, ℕ, ◌+◌, ◌*◌, Bool, List, [], ◌∷◌, ◌⊎◌, inl, inr, length, refl, ap, ◌∙◌, arith}
-use Rattle.std.proofs.{lemmas.Bool.Decides.nat_tests}
+use Rattle.std.proofs.lemmas.Bool.Decides.{nat_tests}
 use Rattle.std.specs.{Prelude.{min, fold, ◌==◌}, List.{list_all, prefix_len}}
-use Rattle.mpd_text.specs.References.{value_of_digit, named_by_number, named_if_all, with_digit}
+use Rattle.mpd_tree.specs.References.{value_of_digit, named_by_number, named_if_all, with_digit}
 
 abbrev pub IsBase : ℕ → Type 0
 IsBase base = (base ≡ 16) ⊎ (base ≡ 10)

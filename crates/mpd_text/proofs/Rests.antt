@@ -5,11 +5,13 @@ use Rattle.std.proofs.{Common.{arith, append_assoc, if◌then◌else◌}, lemmas
 use Rattle.std.proofs.lemmas.List.{take-append-drop, take_all, length-append, length-drop, drop_at, get_or-append-add}
 use Rattle.std.proofs.lemmas.Str.{IsCharBoundary-after_ascii, IsCharBoundary-before_ascii, IsCharBoundary-end}
 use Rattle.std.specs.{List.{position_or_len, starts_with}, Str.{IsUtf8, IsCharBoundary}}
-use Rattle.mpd_text.specs.{declared.stop.Fault.Fault, Characters.{is_white, starts_name, goes_on_name}, Rests.{IsBehind, IsEnd}}
-use Rattle.mpd_text.specs.{Runs.{is_black, after_white, ends_name, name_at, mark, after_mark, common, begins}, Productions.{◌>>=◌, further}}
-use Rattle.mpd_text.specs.{Productions.times, Grammar.{greater_than, behind_dashes, behind_two, second_dash, comment, declared, word}}
-use Rattle.mpd_text.specs.Grammar.{declaration, equals_sign, equals, quote_mark, tag_end, end_name, end_tag, beginning, next_comment, misc}
-use Rattle.mpd_text.proofs.Cuts.{Stops, up_to_is}
+use Rattle.mpd_text.specs.Rests.{IsBehind, IsEnd}
+use Rattle.mpd_tree.specs.{declared.stop.Fault.Fault, Characters.{is_white, starts_name, goes_on_name}}
+use Rattle.mpd_tree.specs.Runs.{is_black, after_white, ends_name, name_at, mark, after_mark, common, begins}
+use Rattle.mpd_tree.specs.Productions.{◌>>=◌, further, times}
+use Rattle.mpd_tree.specs.Grammar.{greater_than, behind_dashes, behind_two, second_dash, comment, declared, word, declaration}
+use Rattle.mpd_tree.specs.Grammar.{equals_sign, equals, quote_mark, tag_end, end_name, end_tag, beginning, next_comment, misc}
+use Rattle.mpd_tree.proofs.Cuts.{Stops, up_to_is}
 
 pub ends_itself : (s : List ℕ) → IsEnd s s
 ends_itself s = record { front = []; whole_is = refl }

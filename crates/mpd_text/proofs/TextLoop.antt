@@ -3,10 +3,12 @@ use Rattle.std.proofs.Common.{◌≡◌, ℕ, ◌+◌, ◌-◌, ◌<◌, IsTrue,
 use Rattle.std.proofs.{Common.{Result, Ok, IfOk, refl, Option, Some, None, sym, ap, ◌∙◌, subst, arith}, lemmas.Bool.eqb-true}
 use Rattle.std.proofs.lemmas.List.{take-append-drop, length-append, append-nil}
 use Rattle.std.specs.{List.slice_range, Str.IsCharBoundary}
-use Rattle.mpd_text.specs.{declared.stop.Fault.Fault, References.{referred_to, is_semicolon, character_or, named_in, entity, reference_at}}
-use Rattle.mpd_text.specs.{Grammar.{reference, marked, part}, Runs.{up_to, plain_at, after_line_feed}, Rests.{IsAt, IsBehind, IsEnd}}
-use Rattle.mpd_text.proofs.{Cuts.{Stops, run_stops}, KeptRows.cut_shown, Rests.{BeginsAscii, behind, cut_before, either, ends, ends_drop}}
-use Rattle.mpd_text.proofs.Rests.{ends_tail, ends_within, then_so}
+use Rattle.mpd_tree.specs.{declared.stop.Fault.Fault, References.{referred_to, is_semicolon, character_or, named_in, entity, reference_at}}
+use Rattle.mpd_tree.specs.{Grammar.{reference, marked, part}, Runs.{up_to, plain_at, after_line_feed}}
+use Rattle.mpd_text.specs.Rests.{IsAt, IsBehind, IsEnd}
+use Rattle.mpd_text.proofs.KeptRows.{cut_shown}
+use Rattle.mpd_text.proofs.Rests.{BeginsAscii, behind, cut_before, either, ends, ends_drop, ends_tail, ends_within, then_so}
+use Rattle.mpd_tree.proofs.Cuts.{Stops, run_stops}
 use Rattle.byte_scan.specs.ByteSet.{is_member, all_ascii}
 
 member_ascii : (members : List ℕ) (b : ℕ) → IsTrue (all_ascii members) → is_member members b ≡ true → b < 128

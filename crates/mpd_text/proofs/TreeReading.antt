@@ -1,13 +1,13 @@
 -- From what was read of a text to the tree or the fault of its bytes.
-use Rattle.mpd_text.specs.declared.stop.Stop.TheVariants as stops
+use Rattle.mpd_tree.specs.declared.stop.Stop.TheVariants as stops
 use Rattle.std.proofs.Common.{◌≡◌, true, List, ℕ, Option, None, Some, Result, Ok, Err, IfOk, IfErr, IfSome, ◌⊎◌, inl, inr, refl, sym, ap}
 use Rattle.std.proofs.{Common.{◌∙◌, subst}, lemmas.Str.is_utf8-from_IsUtf8}
 use Rattle.std.specs.{Result.IsErrAnd, Str.is_utf8}
-use Rattle.mpd_text.specs.{declared.fault.TextFault.TextFault, declared.fault.TextFault.TheVariants.Memory, declared.stop.Stop.Stop}
-use Rattle.mpd_text.specs.{declared.tree.Tree.Tree, Characters.first_bad_character, Faults.{HasBadCharacter, HasFault, IsNotUtf8}}
-use Rattle.mpd_text.specs.{Faults.{ReadsAs, refusal, placed}, Grammar.{IsClean, Spells}, Meaning.{reading_of, stop_told, told}}
-use Rattle.mpd_text.specs.{Nodes.root_of, Trees.Element, Grammar.document, Reading.fault_in}
-use Rattle.mpd_text.proofs.OneReading.{one_reading}
+use Rattle.mpd_tree.specs.{declared.fault.TextFault.TextFault, declared.fault.TextFault.TheVariants.Memory, declared.stop.Stop.Stop}
+use Rattle.mpd_tree.specs.{declared.tree.Tree.Tree, Characters.first_bad_character}
+use Rattle.mpd_tree.specs.{Faults.{HasBadCharacter, HasFault, IsNotUtf8, ReadsAs, refusal, placed}, Grammar.{IsClean, Spells, document}}
+use Rattle.mpd_tree.specs.{Meaning.{reading_of, stop_told, told}, Nodes.root_of, Trees.Element, Reading.fault_in}
+use Rattle.mpd_tree.proofs.OneReading.{one_reading}
 use Rattle.bridge_io.specs.Answer.{Gives}
 
 -- what is read of a text without bad characters

@@ -1,7 +1,8 @@
 -- A value whose first marked byte is its quote reads as it stands.
-use Rattle.std.proofs.Common.{◌≡◌, ℕ, suc, ◌+◌, true, eqb, List, [], ◌∷◌, ◌-◌, ◌≤◌, ◌∙◌, ◌⊎◌, ap, sym, length, take, drop, get_or, Ok, refl}
-use Rattle.std.proofs.{Common.arith, lemmas.List.take_all, lemmas.Bool.Decides.nat_tests}
-use Rattle.mpd_text.specs.{Marked.marked_in_value, Runs.plain_at, Productions.times, Grammar.{marked, value}, Rests.{IsBehind, IsEnd}}
+use Rattle.std.proofs.Common.{◌≡◌, ℕ, suc, ◌+◌, true, eqb, List, [], ◌∷◌, ◌-◌, ◌≤◌, ◌∙◌, ◌⊎◌, ap, sym, length, take, drop, get_or, Ok}
+use Rattle.std.proofs.{Common.{refl, arith}, lemmas.List.take_all, lemmas.Bool.Decides.nat_tests}
+use Rattle.mpd_text.specs.Rests.{IsBehind, IsEnd}
+use Rattle.mpd_tree.specs.{Marked.marked_in_value, Runs.plain_at, Productions.times, Grammar.{marked, value}}
 use Rattle.mpd_text.proofs.Rests.{behind}
 
 value_plain : (q : ℕ) (bytes more : List ℕ) → (plain_at (marked_in_value q) bytes).1 ≡ q ∷ more

@@ -1,7 +1,8 @@
 -- The attributes of a tag that is read, by the rows that are kept.
 use Rattle.std.specs.Prelude.{◌≡◌, ◌≤◌, ◌++◌, ◌∷◌, ℕ, List, [], length}
 use Rattle.mpd_text.specs.{declared.attributes.Names.Names, declared.kept.Kept.Kept, Keeping.{Stays, attributes_in, names_from}}
-use Rattle.mpd_text.specs.{ManyNames.IsPrepared, Rests.IsEnd, Runs.name_at}
+use Rattle.mpd_text.specs.{ManyNames.IsPrepared, Rests.IsEnd}
+use Rattle.mpd_tree.specs.Runs.{name_at}
 
 -- the names of the attributes of a tag are these
 pub record AreKnown (k : Kept) (names : Names) : Type 0 where

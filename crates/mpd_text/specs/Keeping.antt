@@ -1,12 +1,12 @@
 -- What is kept while a text is read, as it is shown.
 use Rattle.mpd_text.specs.declared.content.Piece.TheVariants as pieces
-use Rattle.mpd_text.specs.Pieces as spec
-use Rattle.mpd_text.specs.Grammar as grammar
+use Rattle.mpd_tree.specs.Pieces as spec
+use Rattle.mpd_tree.specs.Grammar as grammar
 use Rattle.std.specs.{Prelude.{◌≡◌, ℕ, suc, Bool, List, [], ◌∷◌, ◌++◌, drop, length, map}, String.string_bytes}
-use Rattle.mpd_text.specs.{declared.content.Piece.Piece, declared.kept.Kept.Kept, Forests.{Shown, shown_of}}
-use Rattle.mpd_text.specs.{Forests.flat, Trees.{names_of, Attribute, Head, Forest, nothing, element, Element}, Views.attribute_of}
-use Rattle.mpd_text.specs.{Rests.IsBehind, Rows.IsKept, declared.tree.KeptSpan.KeptSpan}
-use Rattle.mpd_text.specs.{Positions.place_before, Productions.{Production, ◌>>◌}, Grammar.{tag, next_inside, inside}, Runs.name_at}
+use Rattle.mpd_text.specs.{declared.content.Piece.Piece, declared.kept.Kept.Kept, Rests.IsBehind}
+use Rattle.mpd_tree.specs.{Forests.{Shown, shown_of, flat}, Trees.{names_of, Attribute, Head, Forest, nothing, element, Element}}
+use Rattle.mpd_tree.specs.{Views.attribute_of, Rows.IsKept, declared.tree.KeptSpan.KeptSpan, Positions.place_before}
+use Rattle.mpd_tree.specs.{Productions.{Production, ◌>>◌}, Grammar.{tag, next_inside, inside}, Runs.name_at}
 
 -- the source, and behind it what was read otherwise than it stands there
 abbrev pub kept_of : Kept → List ℕ

@@ -1,6 +1,6 @@
 -- The names of attributes in rows.
 use Rattle.std.specs.Prelude.{ℕ, ◌≤◌, List, map, slice_range}
-use Rattle.mpd_text.specs.declared.tree.AttributeRow.{AttributeRow}
+use Rattle.mpd_tree.specs.declared.tree.AttributeRow.{AttributeRow}
 
 abbrev pub name_in : List ℕ → AttributeRow → List ℕ
 name_in bytes row = slice_range bytes row.name.start row.name.end

@@ -5,19 +5,19 @@ ghost use Rattle.bridge_io.specs.Texts.{is_among};
 ghost use Rattle.mpd_text.specs.Attributes.{AreKnown, GoesOn, IsNew};
 ghost use Rattle.mpd_text.specs.Keeping.{Stays, attributes_from, attributes_in, names_from};
 ghost use Rattle.mpd_text.specs.ManyNames.{IsPrepared};
-ghost use Rattle.mpd_text.specs.Grammar as spec;
-ghost use Rattle.mpd_text.specs.Reading.{fault_in};
-ghost use Rattle.mpd_text.specs.Runs as runs;
+ghost use Rattle.mpd_tree.specs.Grammar as spec;
+ghost use Rattle.mpd_tree.specs.Reading.{fault_in};
+ghost use Rattle.mpd_tree.specs.Runs as runs;
 ghost use Rattle.mpd_text.specs.Rests.{IsBehind, IsEnd};
-ghost use Rattle.mpd_text.specs.declared.stop.Stop.TheVariants.{Memory};
+ghost use Rattle.mpd_tree.specs.declared.stop.Stop.TheVariants.{Memory};
 
 use crate::class::{after_white, name_of, starts_name};
 use crate::kept::Kept;
 use crate::many_names::{FEW, ManyNames, is_name_of_any};
-use crate::stop::{Stop, Wrong, decided, syntax};
+use mpd_tree::{Stop, Wrong, decided, syntax};
 
 /// What stands behind the `=` at the front, and the white space around it.
-#[tactic(auto, unfolding(crate::specs::Grammar::equals))]
+#[tactic(auto, unfolding(mpd_tree::specs::Grammar::equals))]
 fn after_equals(bytes: &[u8]) -> Result<&[u8], Stop>
     ensures { Gives (λ x. x.now) fault_in result (spec.equals bytes.now).read }
 {
@@ -28,7 +28,7 @@ fn after_equals(bytes: &[u8]) -> Result<&[u8], Stop>
 }
 
 /// The quote at the front, and what stands behind it.
-#[tactic(auto, unfolding(crate::specs::Grammar::quote_mark))]
+#[tactic(auto, unfolding(mpd_tree::specs::Grammar::quote_mark))]
 fn quote_of(bytes: &[u8]) -> Result<(u8, &[u8]), Stop>
     ensures quote { IfOk result (λ x. (x.0 ≡ 34) ⊎ (x.0 ≡ 39)) }
     ensures read { Gives (λ x. (x.0, x.1.now)) fault_in result (spec.quote_mark bytes.now).read }
@@ -64,7 +64,7 @@ fn is_repeated<'a>(kept: &Kept<'a>, names: &mut Names<'a>, name: &'a [u8]) -> Re
 }
 
 /// What stands behind the name at the front, which no attribute before in the same tag has.
-#[tactic(auto, unfolding(crate::specs::Grammar::new_name))]
+#[tactic(auto, unfolding(mpd_tree::specs::Grammar::new_name))]
 fn new_name_of<'a>(
     kept: &Kept<'a>,
     names: &mut Names<'a>,
@@ -83,7 +83,7 @@ fn new_name_of<'a>(
 }
 
 /// Keeps the attribute at the front.
-#[tactic(auto, unfolding(crate::specs::Grammar::attribute))]
+#[tactic(auto, unfolding(mpd_tree::specs::Grammar::attribute))]
 fn attribute_of<'a>(
     kept: &mut Kept<'a>,
     names: &mut Names<'a>,
@@ -104,7 +104,7 @@ fn attribute_of<'a>(
 }
 
 /// Keeps the attribute behind white space at the front, or comes to the tag's end; whether that is so.
-#[tactic(auto, using(crate::proofs::Rests::white_left, crate::proofs::Rests::ends), unfolding(crate::specs::Grammar::next_attribute))]
+#[tactic(auto, using(crate::proofs::Rests::white_left, crate::proofs::Rests::ends), unfolding(mpd_tree::specs::Grammar::next_attribute))]
 fn next_of<'a>(
     kept: &mut Kept<'a>,
     names: &mut Names<'a>,

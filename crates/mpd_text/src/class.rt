@@ -1,10 +1,10 @@
 // The bytes of a text by their parts in the grammar of XML 1.0, and runs of them.
 ghost use Rattle.std.specs.Prelude.{◌≡◌, position};
-ghost use Rattle.mpd_text.specs.Characters.{is_white, starts_name, goes_on_name};
-ghost use Rattle.mpd_text.specs.Runs as runs;
+ghost use Rattle.mpd_tree.specs.Characters.{is_white, starts_name, goes_on_name};
+ghost use Rattle.mpd_tree.specs.Runs as runs;
 
 /// White space, production 3.
-#[tactic(auto, unfolding(crate::specs::Characters::is_white))]
+#[tactic(auto, unfolding(mpd_tree::specs::Characters::is_white))]
 #[inline(always)]
 pub(crate) fn is_white(byte: u8) -> bool
     ensures { result ≡ is_white byte }
@@ -13,7 +13,7 @@ pub(crate) fn is_white(byte: u8) -> bool
 }
 
 /// The first byte of a name. All characters from U+0080 on are let through.
-#[tactic(auto, unfolding(crate::specs::Characters::starts_name))]
+#[tactic(auto, unfolding(mpd_tree::specs::Characters::starts_name))]
 #[inline(always)]
 pub(crate) fn starts_name(byte: u8) -> bool
     ensures { result ≡ starts_name byte }
@@ -22,7 +22,7 @@ pub(crate) fn starts_name(byte: u8) -> bool
 }
 
 /// A later byte of a name.
-#[tactic(auto, unfolding(crate::specs::Characters::goes_on_name))]
+#[tactic(auto, unfolding(mpd_tree::specs::Characters::goes_on_name))]
 #[inline(always)]
 pub(crate) fn goes_on_name(byte: u8) -> bool
     ensures { result ≡ goes_on_name byte }

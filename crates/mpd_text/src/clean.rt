@@ -2,18 +2,18 @@
 ghost use Rattle.std.specs.Prelude.{◌≡◌, ◌⊎◌, ◌<◌, ◌≤◌, ℕ, length, drop, position, false, IfOk, IfErr, IfSome, MatchOption};
 ghost use Rattle.std.specs.String.{string_bytes};
 ghost use Rattle.byte_scan.specs.Class.{is_low_control};
-ghost use Rattle.mpd_text.specs.Characters.{IsFirstNoncharacter, begins_with_noncharacter, first_bad_character, lesser};
-ghost use Rattle.mpd_text.specs.Faults.{HasBadCharacter, IsNotUtf8};
-ghost use Rattle.mpd_text.specs.Grammar.{IsClean};
+ghost use Rattle.mpd_tree.specs.Characters.{IsFirstNoncharacter, begins_with_noncharacter, first_bad_character, lesser};
+ghost use Rattle.mpd_tree.specs.Faults.{HasBadCharacter, IsNotUtf8};
+ghost use Rattle.mpd_tree.specs.Grammar.{IsClean};
 
-use crate::TextFault;
 use crate::places::place_at;
 use bridge_io::Bytes;
 use byte_scan::{Class, first_outside};
 use memchr::memchr;
+use mpd_tree::TextFault;
 
 /// Whether the bytes begin with U+FFFE or U+FFFF.
-#[tactic(auto, unfolding(crate::specs::Characters::begins_with_noncharacter))]
+#[tactic(auto, unfolding(mpd_tree::specs::Characters::begins_with_noncharacter))]
 fn begins_with_noncharacter(bytes: &[u8]) -> bool
     ensures { result ≡ begins_with_noncharacter bytes.now }
 {

@@ -2,23 +2,22 @@
 ghost use Rattle.std.specs.Prelude.{◌≡◌, ◌<◌, ◌+◌, ◌++◌, [], ◌∷◌, suc, List, length, IfOk, IfSome, MatchResult, OnOk, Ok, Err};
 ghost use Rattle.std.specs.String.{string_bytes};
 ghost use Rattle.bridge_io.specs.Answer.{Gives};
-ghost use Rattle.mpd_text.specs.Forests.{Shown, flat};
+ghost use Rattle.mpd_tree.specs.Forests.{Shown, flat};
 ghost use Rattle.mpd_text.specs.Keeping.{Grows, IsFilled, IsLeft, IsPieceKept, IsPieceRead, IsSpanRead, IsTag, ShowsRoot};
 ghost use Rattle.mpd_text.specs.Keeping.{content_step, element_at, kept_of, last_head, piece_of, shown_in};
-ghost use Rattle.mpd_text.specs.Grammar as spec;
-ghost use Rattle.mpd_text.specs.Reading.{fault_in};
-ghost use Rattle.mpd_text.specs.Pieces.{Inside};
+ghost use Rattle.mpd_tree.specs.Grammar as spec;
+ghost use Rattle.mpd_tree.specs.Reading.{fault_in};
+ghost use Rattle.mpd_tree.specs.Pieces.{Inside};
 ghost use Rattle.mpd_text.specs.Rests.{IsBehind, IsEnd};
-ghost use Rattle.mpd_text.specs.Trees.{Element, Forest};
-ghost use Rattle.mpd_text.specs.Views.{bytes_of};
+ghost use Rattle.mpd_tree.specs.Trees.{Element, Forest};
+ghost use Rattle.mpd_tree.specs.Views.{bytes_of};
 
 use crate::attributes::attributes_of;
 use crate::class::{name_of, starts_name};
 use crate::kept::Kept;
 use crate::markup::{closed_of, comment_of, end_tag_of};
-use crate::stop::{Stop, Wrong, decided, syntax};
 use crate::text::{add_text, plain_of};
-use crate::tree::KeptSpan;
+use mpd_tree::{KeptSpan, Stop, Wrong, decided, syntax};
 
 /// As many elements may stand inside one another.
 const DEEPEST: usize = 32;
@@ -41,7 +40,7 @@ enum Piece<'a> {
 }
 
 /// Whether a tag is an empty one, and what stands behind it.
-#[tactic(auto, unfolding(crate::specs::Grammar::tag_end, crate::specs::Grammar::greater_than))]
+#[tactic(auto, unfolding(mpd_tree::specs::Grammar::tag_end, mpd_tree::specs::Grammar::greater_than))]
 fn tag_end_of(bytes: &[u8]) -> Result<(bool, &[u8]), Stop>
     ensures { Gives (λ x. (x.0, x.1.now)) fault_in result (spec.tag_end bytes.now).read }
 {
@@ -58,7 +57,7 @@ fn tag_end_of(bytes: &[u8]) -> Result<(bool, &[u8]), Stop>
 }
 
 /// Keeps the element whose tag stands there from its name on, with room for so many inside one another from it on.
-#[tactic(auto, unfolding(crate::specs::Grammar::tag))]
+#[tactic(auto, unfolding(mpd_tree::specs::Grammar::tag))]
 fn tag_of<'a>(
     kept: &mut Kept<'a>,
     room: usize,
@@ -91,7 +90,7 @@ fn tag_of<'a>(
 }
 
 /// Reads the comment or tag behind whose `<` the bytes stand, inside the element of that name.
-#[tactic(auto, unfolding(crate::specs::Grammar::piece))]
+#[tactic(auto, unfolding(mpd_tree::specs::Grammar::piece))]
 fn piece_of<'a>(
     kept: &mut Kept<'a>,
     room: usize,
@@ -242,7 +241,7 @@ fn element_of<'a>(kept: &mut Kept<'a>, left: usize, bytes: &'a [u8]) -> Result<&
 }
 
 /// Reads the root behind whose `<` the bytes stand.
-#[tactic(auto, unfolding(crate::specs::Grammar::behind_root_start))]
+#[tactic(auto, unfolding(mpd_tree::specs::Grammar::behind_root_start))]
 fn root_behind<'a>(kept: &mut Kept<'a>, left: usize, bytes: &'a [u8]) -> Result<&'a [u8], Stop>
     requires rest { IsBehind kept.old.source.now bytes.now }
     requires left { left ≡ length bytes.now + 1 }
@@ -261,7 +260,7 @@ fn root_behind<'a>(kept: &mut Kept<'a>, left: usize, bytes: &'a [u8]) -> Result<
 }
 
 /// Reads the root at the front.
-#[tactic(auto, unfolding(crate::specs::Grammar::root))]
+#[tactic(auto, unfolding(mpd_tree::specs::Grammar::root))]
 pub(crate) fn root_of<'a>(kept: &mut Kept<'a>, bytes: &'a [u8]) -> Result<&'a [u8], Stop>
     requires rest { IsEnd kept.old.source.now bytes.now }
     requires first { shown_in kept.old ≡ [] }

@@ -4,18 +4,16 @@ ghost use Rattle.std.specs.Prelude.{IsUtf8};
 ghost use Rattle.std.specs.String.{string_bytes};
 ghost use Rattle.bridge_io.specs.Answer.{Gives};
 ghost use Rattle.mpd_text.specs.Rests.{IsBehind};
-ghost use Rattle.mpd_text.specs.Rows.{HasAttributesWithin, IsAttributeKept, IsElementKept};
-ghost use Rattle.mpd_text.specs.declared.stop.Stop.TheVariants.{Memory};
-ghost use Rattle.mpd_text.specs.Grammar as spec;
-ghost use Rattle.mpd_text.specs.Positions.{place_before};
-ghost use Rattle.mpd_text.specs.Reading.{fault_in};
-ghost use Rattle.mpd_text.specs.Runs as runs;
+ghost use Rattle.mpd_tree.specs.Rows.{HasAttributesWithin, IsAttributeKept, IsElementKept};
+ghost use Rattle.mpd_tree.specs.declared.stop.Stop.TheVariants.{Memory};
+ghost use Rattle.mpd_tree.specs.Grammar as spec;
+ghost use Rattle.mpd_tree.specs.Positions.{place_before};
+ghost use Rattle.mpd_tree.specs.Reading.{fault_in};
+ghost use Rattle.mpd_tree.specs.Runs as runs;
 
-use crate::element_table::{ElementTable, count};
 use crate::marked::Marked;
-use crate::stop::{Stop, syntax};
 use crate::text::{add_text, plain_of};
-use crate::tree::{AttributeRow, ElementRow, KeptSpan, Rows};
+use mpd_tree::{AttributeRow, ElementRow, ElementTable, KeptSpan, Rows, Stop, count, syntax};
 use std::alloc::Global;
 
 #[derive(Drop)]
@@ -35,13 +33,13 @@ pub(crate) struct Kept<'a> {
 }
 
 impl<'a> Kept<'a> {
-    ghost use Rattle.mpd_text.specs.Forests.{Shown};
+    ghost use Rattle.mpd_tree.specs.Forests.{Shown};
     ghost use Rattle.mpd_text.specs.Keeping.{Adds, Grows, ShowsRoot, attributes_from, attributes_in, head_at, kept_of, shown_in};
-    ghost use Rattle.mpd_text.specs.Nodes.{root_in};
-    ghost use Rattle.mpd_text.specs.Roots.{HasOneRoot};
-    ghost use Rattle.mpd_text.specs.Rows.{IsKept};
-    ghost use Rattle.mpd_text.specs.Trees.{Attribute, Element};
-    ghost use Rattle.mpd_text.specs.Views.{bytes_of};
+    ghost use Rattle.mpd_tree.specs.Nodes.{root_in};
+    ghost use Rattle.mpd_tree.specs.Roots.{HasOneRoot};
+    ghost use Rattle.mpd_tree.specs.Rows.{IsKept};
+    ghost use Rattle.mpd_tree.specs.Trees.{Attribute, Element};
+    ghost use Rattle.mpd_tree.specs.Views.{bytes_of};
 
     #[tactic(auto, unfolding(crate::specs::Keeping::shown_in, crate::specs::Keeping::attributes_in))]
     pub(crate) fn new(alloc: Global, source: &'a str) -> Kept<'a>
@@ -119,7 +117,7 @@ impl<'a> Kept<'a> {
         }
     }
 
-    #[tactic(auto, unfolding(crate::specs::Grammar::value))]
+    #[tactic(auto, unfolding(mpd_tree::specs::Grammar::value))]
     fn read_value(&mut self, quote: u8, bytes: &'a [u8]) -> Result<(KeptSpan, &'a [u8]), Stop>
         requires quote { (quote ≡ 34) ⊎ (quote ≡ 39) }
         requires rest { IsBehind self.old.source.now bytes.now }

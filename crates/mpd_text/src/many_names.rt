@@ -2,10 +2,9 @@
 ghost use Rattle.std.specs.Prelude.{◌≡◌, ◌≤◌, ◌++◌, ◌∷◌, [], ℕ, List, All, IfErr, IfOk, OnOk, length, not, false, slice_range};
 ghost use Rattle.bridge_io.specs.Texts.{is_among};
 ghost use Rattle.mpd_text.specs.Names.{HasNameWithin, name_in, names_in};
-ghost use Rattle.mpd_text.specs.declared.stop.Stop.TheVariants.{Memory};
+ghost use Rattle.mpd_tree.specs.declared.stop.Stop.TheVariants.{Memory};
 
-use crate::stop::Stop;
-use crate::tree::AttributeRow;
+use mpd_tree::{AttributeRow, Stop};
 use std::alloc::Global;
 use std::collections::BTreeSet;
 

@@ -1,7 +1,7 @@
 // The bytes that need a look.
 ghost use Rattle.std.specs.Prelude.{◌≡◌, ◌⊎◌, IsTrue};
 ghost use Rattle.byte_scan.specs.ByteSet.{all_ascii};
-ghost use Rattle.mpd_text.specs.Marked.{marked_in_content, marked_in_value};
+ghost use Rattle.mpd_tree.specs.Marked.{marked_in_content, marked_in_value};
 
 use byte_scan::ByteSet;
 

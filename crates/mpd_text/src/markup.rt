@@ -1,13 +1,13 @@
 // Comments and end tags, behind their `<`.
 ghost use Rattle.bridge_io.specs.Answer.{Gives};
-ghost use Rattle.mpd_text.specs.Grammar as spec;
-ghost use Rattle.mpd_text.specs.Reading.{fault_in};
+ghost use Rattle.mpd_tree.specs.Grammar as spec;
+ghost use Rattle.mpd_tree.specs.Reading.{fault_in};
 
 use crate::class::{after_white, name_of, starts_name};
-use crate::stop::{Stop, Wrong, decided, syntax};
+use mpd_tree::{Stop, Wrong, decided, syntax};
 
 /// What stands behind the `>` at the front.
-#[tactic(auto, unfolding(crate::specs::Grammar::greater_than))]
+#[tactic(auto, unfolding(mpd_tree::specs::Grammar::greater_than))]
 pub(crate) fn closed_of(bytes: &[u8]) -> Result<&[u8], Stop>
     ensures { Gives (λ x. x.now) fault_in result (spec.greater_than bytes.now).read }
 {
@@ -18,7 +18,7 @@ pub(crate) fn closed_of(bytes: &[u8]) -> Result<&[u8], Stop>
 }
 
 /// What stands behind the end of a comment, behind its `--`.
-#[tactic(auto, unfolding(crate::specs::Grammar::behind_dashes, crate::specs::Grammar::greater_than))]
+#[tactic(auto, unfolding(mpd_tree::specs::Grammar::behind_dashes, mpd_tree::specs::Grammar::greater_than))]
 fn behind_dashes(bytes: &[u8]) -> Result<&[u8], Stop>
     ensures { Gives (λ x. x.now) fault_in result (spec.behind_dashes bytes.now).read }
 {
@@ -29,7 +29,7 @@ fn behind_dashes(bytes: &[u8]) -> Result<&[u8], Stop>
 }
 
 /// What stands behind the first place where these two bytes stand side by side.
-#[tactic(auto, unfolding(crate::specs::Grammar::behind_two))]
+#[tactic(auto, unfolding(mpd_tree::specs::Grammar::behind_two))]
 pub(crate) fn behind_two(one: u8, other: u8, bytes: &[u8]) -> Result<&[u8], Stop>
     ensures { Gives (λ x. x.now) fault_in result (spec.behind_two one other bytes.now).read }
 {
@@ -44,7 +44,7 @@ pub(crate) fn behind_two(one: u8, other: u8, bytes: &[u8]) -> Result<&[u8], Stop
     Err(syntax(&[]))
 }
 
-#[tactic(auto, unfolding(crate::specs::Grammar::second_dash))]
+#[tactic(auto, unfolding(mpd_tree::specs::Grammar::second_dash))]
 fn second_dash(bytes: &[u8]) -> Result<&[u8], Stop>
     ensures { Gives (λ x. x.now) fault_in result (spec.second_dash bytes.now).read }
 {
@@ -58,7 +58,7 @@ fn second_dash(bytes: &[u8]) -> Result<&[u8], Stop>
 }
 
 /// What stands behind the comment behind whose `<!` the bytes stand. So many are left from the `<` on.
-#[tactic(auto, unfolding(crate::specs::Grammar::comment))]
+#[tactic(auto, unfolding(mpd_tree::specs::Grammar::comment))]
 pub(crate) fn comment_of(left: usize, bytes: &[u8]) -> Result<&[u8], Stop>
     ensures { Gives (λ x. x.now) fault_in result (spec.comment left bytes.now).read }
 {
@@ -70,7 +70,7 @@ pub(crate) fn comment_of(left: usize, bytes: &[u8]) -> Result<&[u8], Stop>
     }
 }
 
-#[tactic(auto, unfolding(crate::specs::Grammar::end_name))]
+#[tactic(auto, unfolding(mpd_tree::specs::Grammar::end_name))]
 fn end_name_of<'a>(name: &[u8], left: usize, bytes: &'a [u8]) -> Result<&'a [u8], Stop>
     ensures { Gives (λ x. x.now) fault_in result (spec.end_name name.now left bytes.now).read }
 {
@@ -82,7 +82,7 @@ fn end_name_of<'a>(name: &[u8], left: usize, bytes: &'a [u8]) -> Result<&'a [u8]
 }
 
 /// What stands behind the end tag behind whose `</` the bytes stand.
-#[tactic(auto, unfolding(crate::specs::Grammar::end_tag))]
+#[tactic(auto, unfolding(mpd_tree::specs::Grammar::end_tag))]
 pub(crate) fn end_tag_of<'a>(name: &[u8], left: usize, bytes: &'a [u8]) -> Result<&'a [u8], Stop>
     ensures { Gives (λ x. x.now) fault_in result (spec.end_tag name.now left bytes.now).read }
 {

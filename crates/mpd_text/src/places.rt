@@ -1,14 +1,12 @@
 // Places in a text.
 ghost use Rattle.std.specs.Prelude.{◌≡◌, ◌≤◌, length};
 ghost use Rattle.bridge_io.specs.Places.{place_of};
-ghost use Rattle.mpd_text.specs.Faults as faults;
-ghost use Rattle.mpd_text.specs.Faults as faults;
-ghost use Rattle.mpd_text.specs.Meaning as spec;
+ghost use Rattle.mpd_tree.specs.Faults as faults;
+ghost use Rattle.mpd_tree.specs.Meaning as spec;
 
-use crate::TextFault;
-use crate::stop::{Fault, Stop, Wrong};
 use bridge_io::Place;
 use byte_scan::count_lf;
+use mpd_tree::{Fault, Stop, TextFault, Wrong};
 
 /// The place of a byte, or of the end.
 pub(crate) fn place_at(bytes: &[u8], at: usize) -> Place

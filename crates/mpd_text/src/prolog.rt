@@ -1,14 +1,14 @@
 // What stands around the root: the byte order mark, the declaration, white space and comments.
 ghost use Rattle.std.specs.Prelude.{◌≡◌, false};
 ghost use Rattle.bridge_io.specs.Answer.{Gives};
-ghost use Rattle.mpd_text.specs.Grammar as spec;
-ghost use Rattle.mpd_text.specs.Reading.{fault_in};
-ghost use Rattle.mpd_text.specs.Runs as runs;
+ghost use Rattle.mpd_tree.specs.Grammar as spec;
+ghost use Rattle.mpd_tree.specs.Reading.{fault_in};
+ghost use Rattle.mpd_tree.specs.Runs as runs;
 
 use crate::class::{after_white, is_white};
 use crate::markup::{behind_two, comment_of};
 use crate::references::common;
-use crate::stop::{Stop, Wrong, decided, syntax};
+use mpd_tree::{Stop, Wrong, decided, syntax};
 
 /// What stands behind the byte order mark, if there is one.
 fn after_mark(bytes: &[u8]) -> &[u8]
@@ -22,7 +22,7 @@ fn after_mark(bytes: &[u8]) -> &[u8]
 }
 
 /// What stands behind the declaration behind whose `<?xml` the bytes stand. So many are left from the `<` on.
-#[tactic(auto, unfolding(crate::specs::Grammar::declared))]
+#[tactic(auto, unfolding(mpd_tree::specs::Grammar::declared))]
 fn declared_of(left: usize, bytes: &[u8]) -> Result<&[u8], Stop>
     ensures { Gives (λ x. x.now) fault_in result (spec.declared left bytes.now).read }
 {
@@ -33,7 +33,7 @@ fn declared_of(left: usize, bytes: &[u8]) -> Result<&[u8], Stop>
 }
 
 /// The same behind its `<?`.
-#[tactic(auto, unfolding(crate::specs::Grammar::declaration))]
+#[tactic(auto, unfolding(mpd_tree::specs::Grammar::declaration))]
 fn declaration_of(left: usize, bytes: &[u8]) -> Result<&[u8], Stop>
     ensures { Gives (λ x. x.now) fault_in result (spec.declaration left bytes.now).read }
 {
@@ -47,7 +47,7 @@ fn declaration_of(left: usize, bytes: &[u8]) -> Result<&[u8], Stop>
 }
 
 /// What stands behind the byte order mark and the declaration, where there are any.
-#[tactic(auto, unfolding(crate::specs::Grammar::beginning))]
+#[tactic(auto, unfolding(mpd_tree::specs::Grammar::beginning))]
 pub(crate) fn after_beginning(bytes: &[u8]) -> Result<&[u8], Stop>
     ensures { Gives (λ x. x.now) fault_in result (spec.beginning bytes.now).read }
 {
@@ -60,7 +60,7 @@ pub(crate) fn after_beginning(bytes: &[u8]) -> Result<&[u8], Stop>
 }
 
 /// What stands behind the comment at the front and the white space behind that, or there is none; whether that is so.
-#[tactic(auto, unfolding(crate::specs::Grammar::next_comment))]
+#[tactic(auto, unfolding(mpd_tree::specs::Grammar::next_comment))]
 fn next_comment(bytes: &[u8]) -> Result<(bool, &[u8]), Stop>
     ensures { Gives (λ x. (tt, x.0, x.1.now)) fault_in result (spec.next_comment tt bytes.now).read }
 {
@@ -99,7 +99,7 @@ fn expect_nothing(bytes: &[u8]) -> Result<(), Stop>
 }
 
 /// Nothing may follow white space and comments behind the root.
-#[tactic(auto, unfolding(crate::specs::Grammar::ending))]
+#[tactic(auto, unfolding(mpd_tree::specs::Grammar::ending))]
 pub(crate) fn expect_end(bytes: &[u8]) -> Result<(), Stop>
     ensures { Gives (λ x. x) fault_in result (spec.ending bytes.now).read }
 {

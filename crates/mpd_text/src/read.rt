@@ -2,26 +2,23 @@
 ghost use Rattle.std.specs.Prelude.{◌≡◌, ◌++◌, [], All, IfOk, IfErr, IfSome, MatchResult, OnOk, Ok, Err};
 ghost use Rattle.std.specs.String.{string_bytes};
 ghost use Rattle.bridge_io.specs.Answer.{Gives};
-ghost use Rattle.mpd_text.specs.Faults.{HasFault, refusal};
-ghost use Rattle.mpd_text.specs.Grammar.{IsClean, Spells, document};
+ghost use Rattle.mpd_tree.specs.Faults.{HasFault, refusal};
+ghost use Rattle.mpd_tree.specs.Grammar.{IsClean, Spells, document};
 ghost use Rattle.mpd_text.specs.Keeping.{ShowsRoot, shown_in};
-ghost use Rattle.mpd_text.specs.Meaning.{reading_of};
-ghost use Rattle.mpd_text.specs.Nodes.{root_in, root_of};
-ghost use Rattle.mpd_text.specs.Reading.{fault_in};
-ghost use Rattle.mpd_text.specs.Roots.{HasOneRoot};
-ghost use Rattle.mpd_text.specs.Rows.{IsAttributeKept, IsElementKept};
-ghost use Rattle.mpd_text.specs.Trees.{Element};
+ghost use Rattle.mpd_tree.specs.Meaning.{reading_of};
+ghost use Rattle.mpd_tree.specs.Nodes.{root_in, root_of};
+ghost use Rattle.mpd_tree.specs.Reading.{fault_in};
+ghost use Rattle.mpd_tree.specs.Roots.{HasOneRoot};
+ghost use Rattle.mpd_tree.specs.Rows.{IsAttributeKept, IsElementKept};
+ghost use Rattle.mpd_tree.specs.Trees.{Element};
 
-use crate::TextFault;
 use crate::clean::clean;
 use crate::content::root_of;
 use crate::kept::Kept;
-use crate::lines::LineCounts;
 use crate::places::told;
 use crate::prolog::{after_beginning, after_misc, expect_end};
-use crate::stop::Stop;
-use crate::tree::{Rows, Tree};
 use bridge_io::Bytes;
+use mpd_tree::{Rows, Stop, TextFault, Tree};
 use std::alloc::Global;
 
 /// The tree that the bytes spell as an XML 1.0 text in UTF-8, without document type, CDATA section and processing
@@ -42,36 +39,23 @@ pub fn read_tree(alloc: Global, bytes: &[u8]) -> Result<Tree, TextFault>
     ensures fault { IfErr result (λ fault. IfSome (refusal fault) (HasFault bytes.now)) }
 {
     let bytes = Vec::from_slice(alloc, bytes)?;
-    Tree::from_bytes(alloc, Bytes::from(bytes))
+    tree_from_bytes(alloc, Bytes::from(bytes))
 }
 
-impl Tree {
-    /// The tree that the bytes spell, which takes them over: it is [`read_tree`] of them, and the text isn't copied.
-    ///
-    /// # Errors
-    ///
-    /// As those of [`read_tree`].
-    pub fn from_bytes(alloc: Global, bytes: Bytes) -> Result<Tree, TextFault>
-        ensures reading { Gives root_of refusal result (reading_of bytes) }
-        ensures tree { IfOk result (λ tree. Spells (root_of tree) bytes) }
-        ensures fault { IfErr result (λ fault. IfSome (refusal fault) (HasFault bytes)) }
-    {
-        let source = clean(bytes)?;
-        let rows = read_text(alloc, source.as_str())?;
-        let lines = LineCounts::new(alloc, source.as_bytes())?;
-        let Rows {
-            read,
-            elements,
-            attributes,
-        } = rows;
-        Ok(Tree {
-            source,
-            read,
-            lines,
-            elements,
-            attributes,
-        })
-    }
+/// The tree that the bytes spell, which takes them over: it is [`read_tree`] of them, and the text isn't copied.
+///
+/// # Errors
+///
+/// As those of [`read_tree`].
+pub fn tree_from_bytes(alloc: Global, bytes: Bytes) -> Result<Tree, TextFault>
+    ensures reading { Gives root_of refusal result (reading_of bytes) }
+    ensures tree { IfOk result (λ tree. Spells (root_of tree) bytes) }
+    ensures fault { IfErr result (λ fault. IfSome (refusal fault) (HasFault bytes)) }
+{
+    let source = clean(bytes)?;
+    let rows = read_text(alloc, source.as_str())?;
+    let tree = Tree::of_rows(alloc, source, rows)?;
+    Ok(tree)
 }
 
 /// The rows of a text without a character that no text may have.
@@ -91,7 +75,7 @@ fn read_text(alloc: Global, text: &str) -> Result<Rows, TextFault>
 }
 
 /// Reads a whole text.
-#[tactic(auto, unfolding(crate::specs::Grammar::document))]
+#[tactic(auto, unfolding(mpd_tree::specs::Grammar::document))]
 fn read_document<'a>(kept: &mut Kept<'a>, bytes: &'a [u8]) -> Result<(), Stop>
     requires whole { kept.old.source.now ≡ bytes.now }
     requires first { shown_in kept.old ≡ [] }

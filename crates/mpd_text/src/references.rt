@@ -2,15 +2,15 @@
 ghost use Rattle.std.specs.Prelude.{◌≡◌, ◌≤◌, length, position};
 ghost use Rattle.std.specs.List.{prefix_len};
 ghost use Rattle.bridge_io.specs.Answer.{Gives};
-ghost use Rattle.mpd_text.specs.Characters.{is_digit};
-ghost use Rattle.mpd_text.specs.References.{is_hex_digit, value_of_digit, number_of, named_by_number};
-ghost use Rattle.mpd_text.specs.References.{named_by_digits, referred_to};
-ghost use Rattle.mpd_text.specs.References as spec;
-ghost use Rattle.mpd_text.specs.Grammar.{reference};
-ghost use Rattle.mpd_text.specs.Reading.{fault_in, stopped};
-ghost use Rattle.mpd_text.specs.Runs as runs;
+ghost use Rattle.mpd_tree.specs.Characters.{is_digit};
+ghost use Rattle.mpd_tree.specs.References.{is_hex_digit, value_of_digit, number_of, named_by_number};
+ghost use Rattle.mpd_tree.specs.References.{named_by_digits, referred_to};
+ghost use Rattle.mpd_tree.specs.References as spec;
+ghost use Rattle.mpd_tree.specs.Grammar.{reference};
+ghost use Rattle.mpd_tree.specs.Reading.{fault_in, stopped};
+ghost use Rattle.mpd_tree.specs.Runs as runs;
 
-use crate::stop::{Stop, Wrong, decided};
+use mpd_tree::{Stop, Wrong, decided};
 
 const PAST_ALL: u32 = 0x11_0000;
 
@@ -214,7 +214,7 @@ fn named_of<'a>(
 }
 
 /// The character of the reference behind whose `&` the bytes stand. So many are left from the `&` on.
-#[tactic(auto, unfolding(crate::specs::Grammar::reference, crate::specs::References::reference_at))]
+#[tactic(auto, unfolding(mpd_tree::specs::Grammar::reference, mpd_tree::specs::References::reference_at))]
 pub(crate) fn reference_of(left: usize, bytes: &[u8]) -> Result<(char, &[u8]), Stop>
     ensures { Gives (λ x. (x.0, x.1.now)) fault_in result (reference left bytes.now).read }
 {

@@ -3,14 +3,14 @@ ghost use Rattle.std.specs.Prelude.{◌≡◌, IfOk, IsTrue};
 ghost use Rattle.std.specs.String.{string_bytes};
 ghost use Rattle.bridge_io.specs.Answer.{Gives};
 ghost use Rattle.byte_scan.specs.ByteSet.{all_ascii};
-ghost use Rattle.mpd_text.specs.Grammar as spec;
-ghost use Rattle.mpd_text.specs.Reading.{fault_in};
-ghost use Rattle.mpd_text.specs.Runs as runs;
+ghost use Rattle.mpd_tree.specs.Grammar as spec;
+ghost use Rattle.mpd_tree.specs.Reading.{fault_in};
+ghost use Rattle.mpd_tree.specs.Runs as runs;
 ghost use Rattle.mpd_text.specs.Rests.{IsAt, IsBehind};
 
 use crate::references::reference_of;
-use crate::stop::{Stop, syntax};
 use byte_scan::{ByteSet, first_of_set};
+use mpd_tree::{Stop, syntax};
 
 /// What stands before the first byte that needs a look, and from it on.
 pub(crate) fn plain_of<'a>(marks: &ByteSet, bytes: &'a [u8]) -> (&'a [u8], &'a [u8])
@@ -38,7 +38,7 @@ fn after_line_feed(bytes: &[u8]) -> &[u8]
 }
 
 /// Adds what the byte at the front stands for, which needed a look; whether it ends the text.
-#[tactic(auto, unfolding(crate::specs::Grammar::marked))]
+#[tactic(auto, unfolding(mpd_tree::specs::Grammar::marked))]
 fn add_marked<'a>(stop: u8, bytes: &'a [u8], read: &mut String) -> Result<(bool, &'a [u8]), Stop>
     ensures { Gives (λ x. (string_bytes read.new, x.0, x.1.now)) fault_in result
         (spec.marked stop (string_bytes read.old) bytes.now).read }

@@ -4,7 +4,7 @@ ghost use Rattle.std.specs.List.{prefix_len, suffix_len};
 ghost use Rattle.mpd_values.specs.Blanks as spec;
 
 /// The characters that are dropped around a value.
-#[derive(Clone, Copy, Debug)]
+#[derive(Clone, Copy)]
 pub enum Blank {
     /// The space U+0020, around numbers, durations, instants, booleans, ranges and codes.
     Space,

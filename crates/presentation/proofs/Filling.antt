@@ -2,8 +2,8 @@
 use Rattle.std.proofs.Common.{◌≡◌, ℕ, suc, ◌+◌, ◌*◌, cond, List, [], ◌∷◌, ◌++◌, filter, length, All, Result, Ok, Err, refl, sym, ◌∙◌, ap}
 use Rattle.std.proofs.{Common.{subst, arith, length-append}, lemmas.List.Elements.{All-append, All-filter, All-nil, All-head, All-rest}}
 use Rattle.bridge_io.proofs.AndThen.{steps_of}
-use Rattle.bridge_io.specs.{declared.media.Kind.Kind, declared.media.Kind.TheVariants.{Video, Audio, Text}}
-use Rattle.presentation.specs.{Rows.{is_of, by_kind}, Told.{told_as, gathered}}
+use Rattle.bridge_io.specs.{declared.media.Kind.Kind, declared.media.Kind.TheVariants.{Video, Audio, Text}, Answer.{told_as, gathered}}
+use Rattle.presentation.specs.Order.{is_of, by_kind}
 
 pub ok_under : {X E F : Type 0} (tell : E → F) (r : Result X E) (x : X) → told_as tell r ≡ Ok x → r ≡ Ok x
 ok_under tell (Ok y) x is = (let same : y ≡ x = cc in ap Ok same)

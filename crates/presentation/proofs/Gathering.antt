@@ -1,7 +1,7 @@
 -- What some things give one after another.
 use Rattle.std.proofs.Common.{◌≡◌, List, [], ◌∷◌, ◌++◌, Result, Ok, Err, IfSome, refl, sym, ◌∙◌, ap, append_assoc}
-use Rattle.bridge_io.specs.Answer.{and_then}
-use Rattle.presentation.specs.{declared.fault.PresentationFault.PresentationFault, Counting.refusal, Told.gathered}
+use Rattle.bridge_io.specs.Answer.{and_then, gathered}
+use Rattle.presentation.specs.{declared.fault.PresentationFault.PresentationFault, Counting.refusal}
 use Rattle.presentation.proofs.Printing.{if_some}
 
 -- the same behind what was there

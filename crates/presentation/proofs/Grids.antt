@@ -1,9 +1,9 @@
 -- Members of lists by their places.
-use Rattle.std.proofs.Common.{◌≡◌, ℕ, zero, suc, ◌+◌, ◌*◌, ◌<◌, cond, Bool, true, false, List, [], ◌∷◌, ◌++◌, filter, flat_map, length, map}
-use Rattle.std.proofs.{Common.{slice_get, All, Some, refl, sym, ◌∙◌, ap, subst, arith, zero-add}, lemmas.List.map-append}
+use Rattle.std.proofs.Common.{◌≡◌, ℕ, zero, suc, ◌+◌, ◌*◌, ◌<◌, cond, Bool, true, false, List, [], ◌∷◌, ◌++◌, filter, flat_map, length}
+use Rattle.std.proofs.{Common.{map, slice_get, All, Some, refl, sym, ◌∙◌, ap, subst, arith, zero-add}, lemmas.List.map-append}
 use Rattle.std.proofs.{lemmas.List.Elements.{All-head, All-rest}, lemmas.Option.{get_or_from_slice_get, slice_get_within}}
 use Rattle.bridge_io.specs.{declared.media.Kind.Kind, declared.media.Kind.TheVariants.{Video, Audio, Text}}
-use Rattle.presentation.specs.Rows.{by_kind, is_of}
+use Rattle.presentation.specs.Order.{by_kind, is_of}
 
 pub same_members : {X : Type 0} (xs ys : List X) → length xs ≡ length ys → ((k : ℕ) → k < length xs → slice_get xs k ≡ slice_get ys k)
     → xs ≡ ys

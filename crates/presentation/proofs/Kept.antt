@@ -2,7 +2,7 @@
 use Rattle.std.proofs.Common.{◌≡◌, ℕ, ◌<◌, max, Option, Some, None, option_map, refl, ap, subst, arith}
 use Rattle.bridge_io.specs.declared.media.Ratio.{Ratio}
 use Rattle.std.specs.Coded.{le_prop}
-use Rattle.presentation.specs.Scales.{rate_of, ratio_with}
+use Rattle.presentation.specs.Ratios.{rate_of, ratio_with}
 
 same_ratio : (n m k : ℕ) (p : 0 < m) (q : 0 < k) → m ≡ k → ratio_with n m p ≡ ratio_with n k q
 same_ratio n m k p q is = subst (λ j. (r : 0 < j) → ratio_with n m p ≡ ratio_with n j r) is (λ r. ap (ratio_with n m) (le_prop p r)) q

@@ -1,14 +1,7 @@
-pub mod Ending
 pub mod Filling
-pub mod FromMpd
-pub mod Pace
 pub mod Gathering
-pub mod Before
 pub mod Rests
-pub mod Joining
-pub mod OwnAddress
 pub mod Kept
-pub mod Ordered
 pub mod Allowed
 pub mod Addressed
 pub mod Windows
@@ -26,10 +19,7 @@ mod Verified
 pub mod Meant
 pub mod MeantParts
 pub mod Grids
-pub mod Telling
 pub mod Whole
 pub mod WholeWindow
-pub mod Static
 pub mod OwnListed
 pub mod Listable
-mod Countable

@@ -1,13 +1,9 @@
 -- What presentations say of meanings.
-use Rattle.std.specs.Prelude.{◌≡◌, ℕ, ◌<◌, ℤ, true, List, length, map, All, Option, Some, Ok, IfSome}
+use Rattle.std.specs.Prelude.{◌≡◌, ℕ, ◌<◌, true, List, length, map, All, Ok, IfSome}
 use Rattle.url_parts.specs.declared.address.Part.{Part}
 use Rattle.timeline.specs.{Expansions.{SegmentTimeline, Timing}, Listed.part_of_timing}
-use Rattle.mpd_levels.specs.Segments.{Segments}
-use Rattle.mpd_rules.specs.{Rules.typed_mpd_of, Typed.TypedMpd}
-use Rattle.mpd_text.specs.{Trees.Element, Meaning.reading_of}
 use Rattle.presentation.specs.{Presented.{Presented, content_at, listed_at, is_finished}, Counting.counted, Verifying.verified}
-use Rattle.presentation.specs.{Told.presented_of, Meanings.{part_meant, head_of, rows_of, meaning_over, meaning_of, mpd_meaning}}
-use Rattle.presentation.specs.Meanings.{dash_meaning}
+use Rattle.presentation.specs.Meanings.{part_meant, head_of, rows_of, meaning_over, meaning_of}
 
 -- a segment that is made is the part that is meant
 abbrev pub MadeAreMeant : Type 0
@@ -23,14 +19,3 @@ VerifiedAreMeant = (p : Presented) (unit s t : ℕ) (longest : List ℕ) → ver
 abbrev pub FinishedAreWhole : Type 0
 FinishedAreWhole = (p : Presented) (n : ℕ) → is_finished p ≡ true → counted p ≡ Ok n → 0 < length p.tracks
     → meaning_of p ≡ meaning_over (map head_of p.tracks) (rows_of p)
-
--- the presentation of an MPD means what the MPD means
-abbrev pub PresentedAreMeant : Type 0
-PresentedAreMeant = (mpd : TypedMpd (Option Segments)) (url : List ℕ) (now : Option ℤ) (p : Presented) → presented_of mpd url now ≡ Ok p
-    → mpd_meaning mpd url now ≡ meaning_of p
-
--- and that is what its text means
-abbrev pub TextsAreMeant : Type 0
-TextsAreMeant = (bytes url : List ℕ) (now : Option ℤ) (tree : Element) (mpd : TypedMpd (Option Segments)) (p : Presented)
-    → reading_of bytes ≡ Ok tree → typed_mpd_of tree ≡ Ok mpd → presented_of mpd url now ≡ Ok p
-    → dash_meaning bytes url now ≡ Some (meaning_of p)

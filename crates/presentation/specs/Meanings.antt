@@ -1,24 +1,17 @@
--- What a presentation means (ISO/IEC 23009-1, 5.3), and what an MPD means at its URL and an instant, without any limit,
--- and without bounds on numbers and on the length of addresses.
+-- What a presentation means (ISO/IEC 23009-1, 5.3), without any limit, and without bounds on numbers and on the length of addresses.
 use Rattle.timeline.specs.declared.names.Names.TheVariants as names
-use Rattle.std.specs.Prelude.{ℕ, ℤ, ◌+◌, ◌-◌, ◌^◌, ◌&&◌, nat_lt, max, Bool, List, [], ◌∷◌, map, filter, length, slice_get, is_some, Option}
-use Rattle.std.specs.{Prelude.{Some, None, option_and_then, unwrap_or, Ok, Err, if◌then◌else◌}, List.{list_all, list_any}}
-use Rattle.std.specs.{Option.option_map_or, Result.result_ok}
+use Rattle.std.specs.Prelude.{ℕ, ◌+◌, ◌-◌, Bool, List, [], ◌∷◌, map, filter, length, slice_get, is_some, Option, Some, None}
+use Rattle.std.specs.{Prelude.{option_and_then, Ok, Err, if◌then◌else◌}, List.list_any}
 use Rattle.url.specs.{Parser.{Parsed, parse_url}, Parts.Parts}
 use Rattle.bridge_io.specs.{declared.media.Kind.Kind, declared.media.Kind.TheVariants.{Video, Audio, Text}}
-use Rattle.url_parts.specs.{Addresses.{is_absolute, text_of, url_of}, declared.address.Part.Part}
+use Rattle.url_parts.specs.{Addresses.{is_absolute, text_of, url_of}, declared.address.Part.Part, declared.range.Range.Range}
 use Rattle.template_ids.specs.Templates.{named}
-use Rattle.timeline.specs.{declared.entry.SEntry.SEntry, declared.entry.End.End, declared.names.Names.Names, declared.names.RefPart.RefPart}
-use Rattle.timeline.specs.{declared.window.Window.Window, Expansions.{SegmentTimeline, Timing}, Faults.members_by, Listed.media_time}
-use Rattle.timeline.specs.{Names.count_of, SegmentTimelines.timeline_from, Timelines.expansion_of_timeline}
+use Rattle.timeline.specs.{declared.names.Names.Names, declared.window.Window.Window, Expansions.{SegmentTimeline, Timing}}
+use Rattle.timeline.specs.Listed.{media_time}
+use Rattle.mpd_entries.specs.declared.ref_part.RefPart.{RefPart}
 use Rattle.meaning.specs.Meanings.{Segment, Entry, Meaning, Track as MeantTrack}
-use Rattle.mpd_levels.specs.Segments.{Segments}
-use Rattle.mpd_rules.specs.{declared.facts.Facts.Facts, declared.rows.Description.Description, Rules.dash_values, Typed.TypedMpd}
-use Rattle.mpd_text.specs.Meaning.{reading_of}
 use Rattle.presentation.specs.{declared.parts.Content.Content, declared.track.Track.Track, Counting.{sections_of, tracks_of}}
-use Rattle.presentation.specs.{Presented.{Presented, content_at, listed_in, window_at, window_of, whole_window}, Rows.{Row, Period}}
-use Rattle.presentation.specs.{Rows.{first_rows, in_order}, Scales.scale_of, Told.{end_of, following_of, init_reference, names_of}}
-use Rattle.presentation.specs.Told.{part_with, segments_in}
+use Rattle.presentation.specs.Presented.{Presented, content_at, listed_in, window_of}
 
 -- ---- addresses of any length
 
@@ -43,6 +36,9 @@ deepest base [] = base
 deepest base (reference ∷ references) = deepest (address_of base reference) references
 
 -- ---- segments
+
+abbrev pub part_with : Option Range → List ℕ → Part
+part_with range address = record { address = address; range = range }
 
 -- a place behind the last name has no address
 abbrev pub listed_part : (base : List ℕ) → Option RefPart → Part
@@ -131,61 +127,3 @@ rows_of p = map (row_at p) (sections_of p)
 
 unfoldable pub meaning_of : Presented → Meaning
 meaning_of p = meaning_with (map head_of p.tracks) (rows_of p)
-
--- ---- what an MPD means
-
--- a timeline wins over a duration (5.3.9.2)
-abbrev pub timeline_by : Option (List SEntry) → Segments → End → Names → SegmentTimeline
-timeline_by (Some timeline) s end names = timeline_from (scale_of s) s.time_offset names
-    (expansion_of_timeline (scale_of s) end timeline)
-timeline_by None s end names = timeline_from (scale_of s) 0 names
-    (members_by (max 1 s.timescale) end (unwrap_or s.duration 0) (count_of names))
-
-abbrev pub content_with : Description → Segments → End → (base : List ℕ) → Content
-content_with d s end base = record {
-  initialization = part_with s.init_range (address_by base (init_reference d s s.init_template));
-  runs = timeline_by s.timeline s end (names_of d s (unwrap_or s.media []) base);
-}
-
--- what a Representation has in its Period, which ends so
-unfoldable pub content_meant : (url : List ℕ) → End → Description → Segments → Content
-content_meant url end d s = content_with d s end (deepest url d.bases)
-
-abbrev pub content_of_row : (url : List ℕ) → End → Row → Content
-content_of_row url end row = content_meant url end row.description (segments_in row)
-
--- a followed MPD is looked at at an instant
-abbrev pub window_in : Facts → (now : Option ℤ) → Period → Window
-window_in facts now period = option_map_or (λ f. window_at f period.bounds.start) (following_of facts now) whole_window
-
-abbrev pub row_meant : (url : List ℕ) → Facts → (now : Option ℤ) → Period → List (Option Entry)
-row_meant url facts now period = map (λ row. entry_of (window_in facts now period) (content_of_row url (end_of period) row))
-    (in_order period.tracks)
-
-abbrev pub head_of_row : Row → Head
-head_of_row row = head_with row.description.kind row.description.language
-
--- the tracks are the Representations of the first Period, video before audio before text
-unfoldable pub mpd_meaning : TypedMpd (Option Segments) → (url : List ℕ) → (now : Option ℤ) → Meaning
-mpd_meaning mpd url now = meaning_with (map head_of_row (in_order (first_rows mpd.periods))) (map (row_meant url mpd.facts now) mpd.periods)
-
--- its segments can be counted and numbered: no time is counted in ticks of which there are none in a second
-abbrev pub is_counted : Segments → Bool
-is_counted s = nat_lt 0 s.timescale && nat_lt s.start_number (2 ^ 63)
-
-abbrev pub row_counted : Row → Bool
-row_counted row = is_counted (segments_in row)
-
-abbrev pub period_counted : Period → Bool
-period_counted period = list_all row_counted period.tracks
-
-abbrev pub are_counted : TypedMpd (Option Segments) → Bool
-are_counted mpd = list_all period_counted mpd.periods
-
-abbrev pub meaning_if_counted : TypedMpd (Option Segments) → (url : List ℕ) → (now : Option ℤ) → Option Meaning
-meaning_if_counted mpd url now = if are_counted mpd then Some (mpd_meaning mpd url now) else None
-
--- What the text of an MPD means at its URL and an instant. What isn't the text of a tree means nothing, nor does an MPD with a
--- timescale of 0 or a start number of 2^63 or more.
-unfoldable pub dash_meaning : (bytes url : List ℕ) → (now : Option ℤ) → Option Meaning
-dash_meaning bytes url now = option_and_then (λ tree. meaning_if_counted (dash_values tree) url now) (result_ok (reading_of bytes))

@@ -23,16 +23,20 @@ pub record Presented : Type 0 where
   pub following : Option Following
   pub places : List Place
 
--- what parts make
-abbrev pub of_parts : Parts → Presented
-of_parts parts = record {
+-- what parts make, looked at at an instant where they are followed, of which the Representations stand at these places
+abbrev pub of_placed : Parts → Option Following → List Place → Presented
+of_placed parts following places = record {
   tracks = parts.tracks;
   sections = parts.sections;
   contents = parts.contents;
   left_out = parts.left_out;
-  following = None;
-  places = [];
+  following = following;
+  places = places;
 }
+
+-- what parts make that are finished
+abbrev pub of_parts : Parts → Presented
+of_parts parts = of_placed parts None []
 
 -- the same of what the code keeps
 abbrev pub following_of : Kept → Following

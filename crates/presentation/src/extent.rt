@@ -13,7 +13,7 @@ use exact_time::{Digits, Tick, floor_unit};
 use timeline::{Span, TimeWalk};
 
 /// How many segments a track has in a section, and how long they last.
-#[derive(Clone, Copy, Debug, PartialEq, Eq)]
+#[derive(Clone, Copy, PartialEq, Eq)]
 pub struct Extent {
     /// How many segments are listed.
     pub segments: u64,

@@ -9,7 +9,7 @@ use indexmap::IndexSet;
 use std::alloc::Global;
 
 /// An audio track among those of its set.
-#[derive(Clone, Copy, Debug)]
+#[derive(Clone, Copy)]
 pub(crate) struct Rendition {
     pub(crate) place: usize,
     pub(crate) set: usize,

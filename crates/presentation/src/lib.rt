@@ -1,36 +1,28 @@
 //! A presentation: tracks over sections, with their segments, whichever manifest they come from.
 #![tactic(auto)]
 
-mod checks;
 mod count;
-mod described;
 mod ends;
 mod extent;
 mod fault;
-mod from_mpd;
 mod groups;
 mod laws;
-mod lineup;
 mod longest;
 mod parts;
 mod presentation;
 mod segments;
-mod shared;
-mod told;
 mod track;
 mod verify;
 
 use bridge_io::Sequence;
-pub use described::{section_in, tracks_in};
 pub use extent::Extent;
 pub use fault::{PresentationFault, Spot};
 pub use laws::{
-    answers_allow_listings, presentations_mean_what_they_list, presentations_show_their_mpd,
-    segments_can_be_listed, static_mpds_are_finished,
+    answers_allow_listings, playlists_can_be_listed, presentations_mean_what_they_list,
 };
 pub use longest::Longest;
 pub use parts::{Content, Parts};
-pub use presentation::Presentation;
+pub use presentation::{Following, Presentation};
 pub use segments::{Behind, PrintedRun, PrintedSegments, PrintedTimes};
 pub use track::{Section, Track};
 

@@ -7,7 +7,7 @@ use std::marker::Model;
 /// The longest printed duration of each track, in units of the last printed decimal of a second.
 ///
 /// In a contract it is these numbers, by track.
-#[derive(Debug, Drop)]
+#[derive(Drop)]
 pub struct Longest {
     durations: Sequence<u64>,
 }

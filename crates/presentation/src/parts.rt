@@ -4,7 +4,7 @@ use timeline::Runs;
 use url_parts::Part;
 
 /// What a track has in a section.
-#[derive(Debug, Drop)]
+#[derive(Drop)]
 pub struct Content {
     /// The initialization part (ISO/IEC 23009-1, 5.3.9.2; EXT-X-MAP of RFC 8216, 4.3.2.5).
     pub initialization: Part,
@@ -13,7 +13,7 @@ pub struct Content {
 }
 
 /// The parts of a finished presentation.
-#[derive(Debug, Drop)]
+#[derive(Drop)]
 pub struct Parts {
     /// The tracks: video, then audio, then text.
     pub tracks: TrackList,

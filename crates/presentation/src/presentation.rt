@@ -1,6 +1,6 @@
 // A presentation and what it shows of itself.
-ghost use Rattle.std.specs.Prelude.{◌≡◌, ℕ, ℤ, ◌<◌, ◌*◌, ◌+◌, ◌^◌, ◌-ℤ◌, unsigned_abs, length, All, Some, IfOk, option_map};
-ghost use Rattle.presentation.specs.Presented.{of_parts, content_at, start_of, looked_at, following_of, IsEnded, AreFilled};
+ghost use Rattle.std.specs.Prelude.{◌≡◌, ℕ, ℤ, ◌<◌, ◌*◌, ◌+◌, ◌^◌, ◌-ℤ◌, unsigned_abs, length, All, None, Some, IfOk, option_map};
+ghost use Rattle.presentation.specs.Presented.{of_parts, of_placed, content_at, start_of, looked_at, following_of, IsEnded, AreFilled};
 ghost use Rattle.presentation.specs.Presented.{window_of, window_at, window_from};
 ghost use Rattle.iso_time.specs.Instant.{IsReadable};
 ghost use Rattle.timeline.specs.Listed.{IsWindowOf};
@@ -15,14 +15,15 @@ use std::marker::Model;
 use timeline::{Runs, Window};
 use url_parts::Part;
 
-/// When a followed presentation is looked at.
-#[derive(Clone, Copy, Debug)]
-pub(crate) struct Following {
-    pub(crate) instant: Instant,
+/// When a followed presentation is looked at (ISO/IEC 23009-1, 5.3.1.2).
+#[derive(Clone, Copy)]
+pub struct Following {
+    /// The instant at which it is looked at.
+    pub instant: Instant,
     /// `@availabilityStartTime`.
-    pub(crate) availability_start: Instant,
+    pub availability_start: Instant,
     /// `@timeShiftBufferDepth`.
-    pub(crate) depth: Option<Nanos>,
+    pub depth: Option<Nanos>,
 }
 
 impl Following {
@@ -55,7 +56,7 @@ fn minus(time: i128, less: i128) -> i128
 /// Tracks over sections, with their segments.
 ///
 /// In a contract it is its tracks, its sections and what they have in one another, and when it is looked at.
-#[derive(Debug, Drop)]
+#[derive(Drop)]
 pub struct Presentation {
     pub(crate) tracks: TrackList,
     pub(crate) sections: SectionList,
@@ -93,6 +94,24 @@ impl Presentation {
         requires ended { All IsEnded parts.contents }
         ensures { IfOk result (λ presentation. presentation ≡ of_parts parts) }
     {
+        Presentation::from_placed(alloc, parts, None, Vec::new(alloc))
+    }
+
+    /// The presentation of these parts, looked at at an instant where it is followed. `places` are those in an MPD of the
+    /// Representations that the contents are of.
+    ///
+    /// Requires that there is one content for each section and track, and that no content's segments go on to an open
+    /// end where the presentation isn't followed.
+    pub fn from_placed(
+        alloc: Global,
+        parts: Parts,
+        following: Option<Following>,
+        places: Vec<Place>,
+    ) -> Result<Presentation, NoMemory>
+        requires filled { AreFilled (length parts.sections) (length parts.tracks) (length parts.contents) }
+        requires ended { following ≡ None → All IsEnded parts.contents }
+        ensures { IfOk result (λ presentation. presentation ≡ of_placed parts (option_map following_of following) places.items) }
+    {
         let groups = groups_of(alloc, parts.tracks.as_slice())?;
         Ok(Presentation {
             tracks: parts.tracks,
@@ -100,8 +119,8 @@ impl Presentation {
             contents: parts.contents,
             left_out: parts.left_out,
             groups,
-            following: None,
-            places: Vec::new(alloc),
+            following,
+            places,
         })
     }
 

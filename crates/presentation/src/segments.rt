@@ -23,7 +23,7 @@ use timeline::{
 /// segment's end, rounded down.
 ///
 /// In a contract it is the segments with their names, and the times and printed durations of those that are left.
-#[derive(Debug, Drop)]
+#[derive(Drop)]
 pub struct PrintedSegments<'a> {
     listing: Listing<'a>,
     rounder: Rounder,
@@ -42,7 +42,7 @@ impl<'a> Model for PrintedSegments<'a> {
 }
 
 /// Segments that were printed before, behind which others go on.
-#[derive(Clone, Copy, Debug, PartialEq, Eq)]
+#[derive(Clone, Copy, PartialEq, Eq)]
 pub struct Behind {
     /// When the first one began, counted from the Period's start.
     pub first: Tick,
@@ -52,7 +52,7 @@ pub struct Behind {
 
 /// Segments that follow one another, each as long as the first one, with the durations that are printed of them in units of
 /// the last decimal.
-#[derive(Clone, Copy, PartialEq, Eq, Debug)]
+#[derive(Clone, Copy, PartialEq, Eq)]
 pub struct PrintedRun {
     /// Their times.
     pub spans: SpanRun,
@@ -65,7 +65,7 @@ pub struct PrintedRun {
 /// The times of listed segments in order, with their printed durations in units of the last decimal.
 ///
 /// In a contract it is the times and printed durations of those that are left.
-#[derive(Debug, Drop)]
+#[derive(Drop)]
 pub struct PrintedTimes<'a> {
     walk: TimeWalk<'a>,
     rounder: Rounder,
@@ -232,7 +232,7 @@ impl<'a> PrintedSegments<'a> {
 }
 
 /// Where segments begin that are printed one by one.
-#[derive(Debug, Drop)]
+#[derive(Drop)]
 struct Begun {
     cursor: Cursor,
     rounder: Rounder,

@@ -3,7 +3,7 @@ use bridge_io::{Kind, Ratio, Size, Text};
 use exact_time::Nanos;
 
 /// One Representation taken through all Periods (ISO/IEC 23009-1, 5.3.5), or one media playlist (RFC 8216, 4.3.4).
-#[derive(Debug, Drop)]
+#[derive(Drop)]
 pub struct Track {
     /// What it holds.
     pub kind: Kind,
@@ -22,7 +22,7 @@ pub struct Track {
 }
 
 /// A Period (ISO/IEC 23009-1, 5.3.2), or the segments of one discontinuity sequence number (RFC 8216, 4.3.3.3).
-#[derive(Debug, Drop)]
+#[derive(Drop)]
 pub struct Section {
     /// The Period's id. Where it has none, any text.
     pub id: Text,

@@ -21,10 +21,8 @@
 ghost use Rattle.std.specs.Prelude.{◌≡◌, ◌<◌};
 
 use bridge_core::{Status, bridge};
-use bridge_io::{
-    Bytes, CallList, FolderStore, Ledger, MemSink, MemSource, MemStore, Name, NoMemory, Sequence,
-    Sink, StdSink, StdSource, Steps, Store, Text, slurp,
-};
+use bridge_ends::{CallList, FolderStore, MemSink, MemSource, MemStore, StdSink, StdSource};
+use bridge_io::{Bytes, Ledger, Name, NoMemory, Sequence, Sink, Steps, Store, Text, slurp};
 use std::alloc::Global;
 use std::io::{self, ErrorKind, Write};
 use std::marker::Brand;

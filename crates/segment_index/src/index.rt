@@ -10,7 +10,7 @@ use std::marker::Model;
 /// The index of a file: a `sidx` of version 0 or 1, whose fields are all there.
 ///
 /// In a contract it is its place, its timescale, the first byte that its references cover, and these.
-#[derive(Debug, Drop)]
+#[derive(Drop)]
 pub struct SegmentIndex<'a> {
     found: FileBox<'a>,
 }
@@ -66,7 +66,7 @@ impl<'a> SegmentIndex<'a> {
 }
 
 /// Passes a `sidx` of version 0 or 1, and one without a byte behind its header.
-#[derive(Clone, Copy, Debug)]
+#[derive(Clone, Copy)]
 struct IsIndex;
 
 impl BoxTest for IsIndex {

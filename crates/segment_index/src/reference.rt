@@ -6,7 +6,7 @@ use box_reader::u32_at;
 use std::marker::Model;
 
 /// A reference: a subsegment, or a further index (ISO/IEC 14496-12, 8.16.3.3).
-#[derive(Clone, Copy, Debug, PartialEq, Eq)]
+#[derive(Clone, Copy, PartialEq, Eq)]
 pub struct Reference {
     /// Where it stands in the file.
     pub at: u64,
@@ -19,7 +19,7 @@ pub struct Reference {
 }
 
 /// The references that are left: in a contract the list of them.
-#[derive(Debug, Drop)]
+#[derive(Drop)]
 pub struct References<'a> {
     rest: &'a [u8],
     at: u64,

@@ -7,7 +7,7 @@ ghost use Rattle.template_ids.specs.Identifiers.{HasWidth};
 use crate::TemplateFault;
 
 /// A number that an identifier stands for.
-#[derive(Clone, Copy, Debug, PartialEq, Eq)]
+#[derive(Clone, Copy, PartialEq, Eq)]
 pub enum Quantity {
     Number,
     Time,
@@ -15,7 +15,7 @@ pub enum Quantity {
 }
 
 /// What an identifier stands for.
-#[derive(Clone, Copy, Debug)]
+#[derive(Clone, Copy)]
 pub enum Identifier {
     /// A `$`.
     Dollar,

@@ -5,7 +5,7 @@ use crate::identifier::Quantity;
 use bridge_io::Text;
 
 /// What the identifiers of a template stand for.
-#[derive(Debug, Drop)]
+#[derive(Drop)]
 pub struct Ids {
     /// The id of the Representation.
     pub id: Text,
@@ -34,7 +34,7 @@ impl Ids {
 }
 
 /// What the identifiers of a template stand for, without a copy of the id: many segments have the same one.
-#[derive(Clone, Copy, Debug)]
+#[derive(Clone, Copy)]
 pub struct BorrowedIds<'a> {
     /// The id of the Representation.
     pub id: &'a str,

@@ -14,7 +14,7 @@ use std::alloc::{AllocError, Global};
 const ZEROS: &str = "00000000000000000000";
 
 /// A piece of a template.
-#[derive(Clone, Copy, Debug)]
+#[derive(Clone, Copy)]
 pub enum Piece {
     /// The bytes of the template's text from one place up to another.
     Literal { start: usize, end: usize },

@@ -15,7 +15,7 @@ use std::marker::Model;
 /// for a `$`, `RepresentationID` for the Representation's id, and `Number`, `Time` and `Bandwidth` for a number. Each
 /// of these three may carry a format `%0wd`, with w of 1 to 3 digits and a value of 1 to 20, which pads the number
 /// with zeros to w digits.
-#[derive(Debug, Drop)]
+#[derive(Drop)]
 pub struct Template {
     text: Text,
     pieces: Vec<Piece>,

@@ -7,7 +7,7 @@ use bridge_io::NoMemory;
 use std::alloc::Global;
 
 /// Texts with numbers in the order in which they were found, each once.
-#[derive(Debug, Drop)]
+#[derive(Drop)]
 pub(crate) struct Found<'a> {
     pub(crate) texts: Vec<&'a str>,
     /// Whether the text of a number was found.

@@ -9,7 +9,7 @@ use std::alloc::Global;
 use std::marker::Model;
 
 /// Lists of texts by place. A text that stands in many lists is compared with the others only when it is added.
-#[derive(Debug, Drop)]
+#[derive(Drop)]
 pub struct TextLists<'a> {
     alloc: Global,
     table: TextTable<'a>,

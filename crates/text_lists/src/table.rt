@@ -10,7 +10,7 @@ use std::alloc::Global;
 use std::collections::BTreeMap;
 
 /// Texts, each once, by number: in the order in which they were added.
-#[derive(Debug, Drop)]
+#[derive(Drop)]
 pub(crate) struct TextTable<'a> {
     pub(crate) texts: Vec<&'a str>,
     pub(crate) numbers: BTreeMap<&'a str, usize>,

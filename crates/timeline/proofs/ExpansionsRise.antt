@@ -5,16 +5,17 @@ use Rattle.std.proofs.{lemmas.Bool.Decides.nat_tests, Math.Nat.mul-lt-mul_of_pos
 use Rattle.std.specs.{Prelude.{◌==◌, ◌⊎◌, unwrap_or}, List.list_any}
 use Rattle.exact_time.specs.Time.{Time, IsTime, IsBefore, in_units, before, at_most, nanoseconds}
 use Rattle.exact_time.proofs.TimeOrder.{before_or_at_most, at_most-false}
-use Rattle.timeline.specs.{declared.entry.SEntry.SEntry, declared.entry.Scale.Scale, declared.entry.End.End}
-use Rattle.timeline.specs.{declared.entry.End.TheVariants.{At, Unbounded}, declared.span.Span.Span, Ratios.{earlier, steps_to_cover}}
-use Rattle.timeline.specs.{Expansions.{Extent, Member, Closed, Short, Endless, repeated, repeat_of}, Timelines.{Reach, Counted, UpTo}}
-use Rattle.timeline.specs.Timelines.{Unending, Nowhere, extent_from, reach_of, reach_of_next, count_of, count_up_to, members_of}
-use Rattle.timeline.specs.{Timelines.{members_from, expansion_of_timeline}, Durations.{extent_at, extents_by, cut_at, expansion_of_names}}
-use Rattle.timeline.specs.{Durations.{expansion_of_list, extent_of}, Faults.{lasts_no_time, extents_break, is_apart, is_too_many}}
-use Rattle.timeline.specs.{Faults.{members_by, segment_fault}, Limits.too_long, Laws.{TimelinesRise, DurationsRise, ListsRise}}
-use Rattle.timeline.specs.Steady.{Lasts, LastsTicks, AreLasting, IsSteady}
-use Rattle.timeline.proofs.{Ratios.{steps_to_cover-is, ceiling-le}, Rises.{Lasts-from_ticks, LastsTicks-repeat, ends_rise, steady_from}}
-use Rattle.timeline.proofs.{Rises.touching_own, Judged.{head_passes, passes}}
+use Rattle.timeline.specs.{declared.entry.Scale.Scale, declared.entry.End.End, declared.entry.End.TheVariants.{At, Unbounded}}
+use Rattle.timeline.specs.{declared.span.Span.Span, Ratios.{earlier, steps_to_cover}}
+use Rattle.timeline.specs.Expansions.{Extent, Member, Closed, Short, Endless, repeated, repeat_of}
+use Rattle.timeline.specs.Timelines.{Reach, Counted, UpTo, Unending, Nowhere, extent_from, reach_of, reach_of_next, count_of, count_up_to}
+use Rattle.timeline.specs.Timelines.{members_of, members_from, expansion_of_timeline}
+use Rattle.timeline.specs.Durations.{extent_at, extents_by, cut_at, expansion_of_names, expansion_of_list, extent_of}
+use Rattle.timeline.specs.{Faults.{lasts_no_time, extents_break, is_apart, is_too_many, members_by, segment_fault}, Limits.too_long}
+use Rattle.timeline.specs.{Laws.{TimelinesRise, DurationsRise, ListsRise}, Steady.{Lasts, LastsTicks, AreLasting, IsSteady}}
+use Rattle.mpd_entries.specs.declared.entry.SEntry.{SEntry}
+use Rattle.timeline.proofs.Ratios.{steps_to_cover-is, ceiling-le}
+use Rattle.timeline.proofs.{Rises.{Lasts-from_ticks, LastsTicks-repeat, ends_rise, steady_from, touching_own}, Judged.{head_passes, passes}}
 
 -- ---- times given one by one
 

@@ -4,15 +4,16 @@ use Rattle.std.proofs.{Common.{ap, inl, inr, arith, []}, lemmas.Int.ints, lemmas
 use Rattle.std.specs.{Prelude.{Option, None, IfSome, Ok, ◌↔◌, ◌⊎◌, slice_get, unwrap_or}, List.list_any}
 use Rattle.exact_time.specs.Time.{Time, IsAtMost}
 use Rattle.exact_time.proofs.TimeOrder.{at_most-true, at_most-from}
-use Rattle.timeline.specs.{declared.entry.SEntry.SEntry, declared.entry.Scale.Scale, declared.entry.End.End}
-use Rattle.timeline.specs.{declared.entry.End.TheVariants.{At, Unbounded}, declared.fault.TimeFault.TimeFault}
-use Rattle.timeline.specs.{declared.window.Window.Window, Expansions.{Extent, Member, Closed, Short, Endless, SegmentTimeline, ended_by}}
-use Rattle.timeline.specs.{Expansions.{goes_on, is_open, repeated}, Faults.{ends_open, fault_if, is_negative, is_unbounded, or_fault}}
-use Rattle.timeline.specs.{Listed.reaches_fault, OpenEnds.StepsAreGreatest, Ratios.natural, SegmentTimelines.unless_fault, Timelines.Reach}
-use Rattle.timeline.specs.Timelines.{Counted, UpTo, Unending, Nowhere, count_of, count_up_to, extent_from, members_from, members_of}
-use Rattle.timeline.specs.Timelines.{reach_of}
-use Rattle.timeline.proofs.{ExpansionsRise.not_unending, Ratios.{floor_ticks, at_most-floor, int_le-true, int_le-from}, Repeats.again-row}
-use Rattle.timeline.proofs.Repeats.{ended_by-row, ends_by-in, ends_by-out, natural-pos, row, row-is, slice_get-repeated}
+use Rattle.timeline.specs.{declared.entry.Scale.Scale, declared.entry.End.End, declared.entry.End.TheVariants.{At, Unbounded}}
+use Rattle.timeline.specs.{declared.fault.TimeFault.TimeFault, declared.window.Window.Window}
+use Rattle.timeline.specs.Expansions.{Extent, Member, Closed, Short, Endless, SegmentTimeline, ended_by, goes_on, is_open, repeated}
+use Rattle.timeline.specs.{Faults.{ends_open, fault_if, is_negative, is_unbounded, or_fault}, Listed.reaches_fault}
+use Rattle.timeline.specs.{OpenEnds.StepsAreGreatest, Ratios.natural, SegmentTimelines.unless_fault}
+use Rattle.timeline.specs.Timelines.{Reach, Counted, UpTo, Unending, Nowhere, count_of, count_up_to, extent_from, members_from}
+use Rattle.timeline.specs.Timelines.{members_of, reach_of}
+use Rattle.mpd_entries.specs.declared.entry.SEntry.{SEntry}
+use Rattle.timeline.proofs.{ExpansionsRise.not_unending, Ratios.{floor_ticks, at_most-floor, int_le-true, int_le-from}}
+use Rattle.timeline.proofs.Repeats.{again-row, ended_by-row, ends_by-in, ends_by-out, natural-pos, row, row-is, slice_get-repeated}
 
 -- ---- what has no fault
 

@@ -1,8 +1,8 @@
 -- Segments whose names are addresses already.
 use Rattle.std.proofs.Common.{◌≡◌, ℕ, zero, suc, ◌+◌, ◌-◌, ◌<◌, ◌≤◌, false, not, List, ◌∷◌, get_or, length, pos, refl, ◌∙◌, ap, inl, []}
 use Rattle.std.proofs.{Common.{inr, arith, ◌*◌, true, cond, map, drop}, lemmas.Bool.Decides.nat_tests, lemmas.List.length-map}
-use Rattle.std.proofs.{lemmas.Option.{slice_get_cases, slice_get-map}, lemmas.List.Elements.{All-nil, All-cons, All-drop, All-filter}}
-use Rattle.std.proofs.lemmas.List.Elements.{All-get_or, All-from_recursion}
+use Rattle.std.proofs.lemmas.Option.{slice_get_cases, slice_get-map}
+use Rattle.std.proofs.lemmas.List.Elements.{All-nil, All-cons, All-drop, All-filter, All-get_or, All-from_recursion}
 use Rattle.std.specs.Prelude.{All, IfSome, IsSome, MatchOption, Option, Some, None, Result, Ok, Err, slice_get, unwrap_or}
 use Rattle.std.specs.List.{AllByRecursion}
 use Rattle.exact_time.specs.Time.{Time, nanoseconds, at_most}
@@ -10,13 +10,16 @@ use Rattle.url_parts.specs.{Addresses.IsAddress, declared.address.Part.Part}
 use Rattle.url_parts.proofs.Parsed.{given_again}
 use Rattle.timeline.specs.{declared.entry.End.End, declared.entry.End.TheVariants.{At, Unbounded}, declared.fault.ListFault.ListFault}
 use Rattle.timeline.specs.{declared.fault.ListFault.TheVariants.{Url, Memory}, declared.names.Names.TheVariants.Addresses}
-use Rattle.timeline.specs.{declared.entry.SEntry.SEntry, declared.entry.Scale.Scale, declared.span.Span.Span, Durations.{cut_at, cut_by}}
-use Rattle.timeline.specs.{Durations.{extents_by, expansion_of_names, expansion_of_list}, Expansions.{Extent, Member, Closed, Short}}
-use Rattle.timeline.specs.Expansions.{Endless, SegmentTimeline, Timing, extents, is_open, numbered, ended_by, repeat_of, repeated}
-use Rattle.timeline.specs.{Faults.{are_paired, members_by}, Listed.{expansion, instant_of, is_listed, part_of_timing}, Names.list_refusal}
+use Rattle.timeline.specs.{declared.entry.Scale.Scale, declared.span.Span.Span}
+use Rattle.timeline.specs.Durations.{cut_at, cut_by, extents_by, expansion_of_names, expansion_of_list}
+use Rattle.timeline.specs.Expansions.{Extent, Member, Closed, Short, Endless, SegmentTimeline, Timing, extents, is_open, numbered}
+use Rattle.timeline.specs.{Expansions.{ended_by, repeat_of, repeated}, Faults.{are_paired, members_by}}
+use Rattle.timeline.specs.{Listed.{expansion, instant_of, is_listed, part_of_timing}, Names.list_refusal}
 use Rattle.timeline.specs.OwnParts.{AreGivenAgain, AreNumbered, HasPart, HaveParts, OnlyMemoryHolds, PartsAreMade, reference_to}
-use Rattle.timeline.specs.{Starts.StartInTicks, Timelines.{Reach, Counted, UpTo, Unending, Nowhere, count_of, count_up_to, extent_from}}
-use Rattle.timeline.specs.Timelines.{members_from, members_of, reach_of}
+use Rattle.timeline.specs.Starts.{StartInTicks}
+use Rattle.timeline.specs.Timelines.{Reach, Counted, UpTo, Unending, Nowhere, count_of, count_up_to, extent_from, members_from}
+use Rattle.timeline.specs.Timelines.{members_of, reach_of}
+use Rattle.mpd_entries.specs.declared.entry.SEntry.{SEntry}
 use Rattle.timeline.proofs.{OpenEnds.closed_not_open, KeptLemmas.all_append}
 
 -- ---- the numbers

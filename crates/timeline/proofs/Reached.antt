@@ -1,37 +1,40 @@
 -- How far the segments of an S go on.
-use Rattle.std.proofs.{lemmas.List.{append_assoc, append-nil, map-append, drop-drop, length-append, length-drop}, Common.{inl, inr, ◌≡◌, ℕ}}
-use Rattle.std.proofs.Common.{ap₂, zero, suc, ◌+◌, ◌-◌, ◌*◌, ◌<◌, ◌≤◌, Bool, true, false, cond, List, ◌∷◌, map, ℤ, pos, negsuc, [], ◌+ℤ◌}
-use Rattle.std.proofs.Common.{◌-ℤ◌, ◌*ℤ◌, Option, Some, None, refl, ◌∙◌, sym, ap, subst, arith, ◌^◌, max, ltb, ◌||◌, ◌++◌, length, drop}
-use Rattle.std.proofs.{lemmas.Int.ints, lemmas.Option.IfSome_then, lemmas.Bool.Decides.nat_tests, lemmas.Bool.{cond-true, cond-false}}
-use Rattle.std.proofs.{lemmas.Bool.{or_parts, cases_Bool, cases_lt, eq-eqb, ne_eqb, le-ltb, lt-leb}, Math.Nat.one-le-mul}
-use Rattle.std.proofs.{Math.Nat.mul-le-mul_right, Math.Seq.drop-nil}
+use Rattle.std.proofs.lemmas.List.{append_assoc, append-nil, map-append, drop-drop, length-append, length-drop}
+use Rattle.std.proofs.Common.{inl, inr, ◌≡◌, ℕ, ap₂, zero, suc, ◌+◌, ◌-◌, ◌*◌, ◌<◌, ◌≤◌, Bool, true, false, cond, List, ◌∷◌, map, ℤ, pos}
+use Rattle.std.proofs.Common.{negsuc, [], ◌+ℤ◌, ◌-ℤ◌, ◌*ℤ◌, Option, Some, None, refl, ◌∙◌, sym, ap, subst, arith, ◌^◌, max, ltb, ◌||◌}
+use Rattle.std.proofs.{Common.{◌++◌, length, drop}, lemmas.Int.ints, lemmas.Option.IfSome_then, lemmas.Bool.Decides.nat_tests}
+use Rattle.std.proofs.lemmas.Bool.{cond-true, cond-false, or_parts, cases_Bool, cases_lt, eq-eqb, ne_eqb, le-ltb, lt-leb}
+use Rattle.std.proofs.{Math.Nat.{one-le-mul, mul-le-mul_right}, Math.Seq.drop-nil}
 use Rattle.std.specs.{Prelude.{◌⊎◌, slice_get, not, ◌&&◌, ◌==◌, Option, Some, None, IsNone, unsigned_abs}, List.list_any}
 use Rattle.std.specs.Int.{FitsUnsignedBits, abs_diff}
-use mir.Val.{SFits}
-use mir.Syntax.{w64}
 use Rattle.exact_time.specs.{Time.{Time, IsBefore, IsAtMost, difference, nanoseconds}, Floor.IsCeiling}
-use Rattle.timeline.specs.{declared.entry.SEntry.SEntry, declared.entry.Scale.Scale, declared.entry.End.End}
-use Rattle.timeline.specs.{declared.entry.End.TheVariants.{At, Unbounded}, declared.fault.TimeFault.TimeFault}
-use Rattle.timeline.specs.{declared.fault.TimeFault.TheVariants.{Range, Step}, declared.builder.RunsBuilder.RunsBuilder}
-use Rattle.timeline.specs.{declared.limits.Limits.Limits, declared.names.Names.Names, declared.media_run.MediaRun.MediaRun}
-use Rattle.timeline.specs.{declared.media_runs.MediaRuns.MediaRuns, declared.shared_timeline.LaidTimeline.LaidTimeline}
-use Rattle.timeline.specs.{declared.timelines.Reach.Reach as Found, declared.timelines.Reach.TheVariants.{Count, Open, Nowhere}}
-use Rattle.timeline.specs.{declared.timelines.Reach.TheVariants.Nowhere as Without, Ratios.natural, Expansions.{Extent, Member, Closed}}
-use Rattle.timeline.specs.{Expansions.{Short, lasting, repeated, Endless, repeat_of}, Timelines.{UpTo, placed, extent_from, count_up_to}}
-use Rattle.timeline.specs.Timelines.{members_of, reach_of, reach_of_end, members_from, expansion_of_timeline, reach_of_next}
+use Rattle.timeline.specs.{declared.entry.Scale.Scale, declared.entry.End.End, declared.entry.End.TheVariants.{At, Unbounded}}
+use Rattle.timeline.specs.{declared.fault.TimeFault.TimeFault, declared.fault.TimeFault.TheVariants.{Range, Step}}
+use Rattle.timeline.specs.{declared.builder.RunsBuilder.RunsBuilder, declared.limits.Limits.Limits, declared.names.Names.Names}
+use Rattle.timeline.specs.{declared.media_run.MediaRun.MediaRun, declared.media_runs.MediaRuns.MediaRuns}
+use Rattle.timeline.specs.{declared.shared_timeline.LaidTimeline.LaidTimeline, declared.timelines.Reach.Reach as Found}
+use Rattle.timeline.specs.{declared.timelines.Reach.TheVariants.{Count, Open, Nowhere, Nowhere as Without}, Ratios.natural}
+use Rattle.timeline.specs.Expansions.{Extent, Member, Closed, Short, lasting, repeated, Endless, repeat_of}
+use Rattle.timeline.specs.Timelines.{UpTo, placed, extent_from, count_up_to, members_of, reach_of, reach_of_end, members_from}
+use Rattle.timeline.specs.Timelines.{expansion_of_timeline, reach_of_next}
 use Rattle.timeline.specs.{SegmentTimelines.{timeline_of_entries, timeline_of_members, timeline_if_paired}, Limits.breaks_limits}
 use Rattle.timeline.specs.{Steady.{AreKept, AreLasting}, Faults.{ends_open, is_apart, is_unbounded, refusal, segment_fault}}
 use Rattle.timeline.specs.Building.{AreAdded, IsLaidOut, IsFaultOf, breaks_in, extent_in, fault_of, former_end, members_so_far, placed_in}
-use Rattle.timeline.specs.{Building.runs_in, Reaches.{GoesOn as MoreFollow, IsUpTo, IsReach, AreLaidOut, AreLimitsOf, IsSoFar}}
-use Rattle.timeline.specs.{Reaches.{IsTheirFault, members_of_entry, next_of, start_of}, MediaTimelines.{AreMediaRuns, IsLaidTimeline}}
-use Rattle.timeline.specs.MediaTimelines.{IsMedia, IsNextRun, IsPushed, LaysOut, are_passed, expansion_of_laid, timeline_of_laid, media_end}
-use Rattle.timeline.specs.{MediaTimelines.{rest_of, runs_by}, RunSegments.{IsRun, all_extents, placed_run}}
+use Rattle.timeline.specs.Building.{runs_in}
+use Rattle.timeline.specs.Reaches.{GoesOn as MoreFollow, IsUpTo, IsReach, AreLaidOut, AreLimitsOf, IsSoFar, IsTheirFault}
+use Rattle.timeline.specs.Reaches.{members_of_entry, next_of, start_of}
+use Rattle.timeline.specs.MediaTimelines.{AreMediaRuns, IsLaidTimeline, IsMedia, IsNextRun, IsPushed, LaysOut, are_passed}
+use Rattle.timeline.specs.MediaTimelines.{expansion_of_laid, timeline_of_laid, media_end, rest_of, runs_by}
+use Rattle.timeline.specs.RunSegments.{IsRun, all_extents, placed_run}
+use Rattle.mpd_entries.specs.declared.entry.SEntry.{SEntry}
 use Rattle.timeline.proofs.Ratios.{steps_to_cover-is, ceiling-is, int_le-mul, int_add-mul, ceiling, ceiling-enough, ceiling-le}
 use Rattle.timeline.proofs.Laid.{refusal_some, IsRun-in, extents-push, extents_after, laid-push, none_follows, none_of, room_after}
-use Rattle.timeline.proofs.{Laid.timed-in, Paced.kept_of, ExpansionsRise.{entries_last, repeated_last}, OpenEnds.closed_not_open}
-use Rattle.timeline.proofs.{OpenEnds.open_expands, Judged.{breaks-mono, head_breaks, is_apart-in, media_extent-in, run_fault}}
-use Rattle.timeline.proofs.LimitLemmas.{breaks_media, abs-lt}
+use Rattle.timeline.proofs.{Laid.timed-in, Paced.kept_of, ExpansionsRise.{entries_last, repeated_last}}
+use Rattle.timeline.proofs.OpenEnds.{closed_not_open, open_expands}
+use Rattle.timeline.proofs.{Judged.{breaks-mono, head_breaks, is_apart-in, media_extent-in, run_fault}, LimitLemmas.{breaks_media, abs-lt}}
 use Rattle.exact_time.proofs.TimeOrder.{at_most-from, not_at_most-from}
+use mir.Val.{SFits}
+use mir.Syntax.{w64}
 
 positive_from : (count length step : ℕ) → IsCeiling length step count → 0 < length → 0 < count
 positive_from count length step is some = grind (arith, is.enough)

@@ -2,13 +2,15 @@
 use Rattle.std.specs.Prelude.{ℕ, ◌-◌, ◌*◌, ℤ, pos, negsuc, Bool, true, false, not, ◌&&◌, ◌||◌, ◌==◌, nat_lt, List, [], ◌∷◌, length}
 use Rattle.std.specs.{Prelude.{unsigned_abs, if◌then◌else◌, Option, Some, None}, List.list_any}
 use Rattle.exact_time.specs.Time.{Time, difference, before, at_most, nanoseconds}
-use Rattle.timeline.specs.{declared.fault.TimeFault.TimeFault, declared.fault.TimeFault.TheVariants.{ZeroDuration, Range, NoEnd, Step}}
-use Rattle.timeline.specs.{declared.fault.TimeFault.TheVariants.{ListLength, TimeWithoutTimeline, Memory}, declared.entry.SEntry.SEntry}
+use Rattle.timeline.specs.declared.fault.TimeFault.{TimeFault}
+use Rattle.timeline.specs.declared.fault.TimeFault.TheVariants.{ZeroDuration, Range, NoEnd, Step, ListLength, TimeWithoutTimeline, Memory}
 use Rattle.timeline.specs.{declared.entry.Scale.Scale, declared.entry.End.End, declared.entry.End.TheVariants.{At, Unbounded}}
-use Rattle.timeline.specs.{declared.span.Span.Span, declared.names.Names.Names, Expansions.{Extent, Member, Closed, Short, Endless}}
-use Rattle.timeline.specs.{Expansions.{lasting, is_open}, Limits.{breaks_limits, span_breaks_limits}, Timelines.expansion_of_timeline}
-use Rattle.timeline.specs.{Durations.{expansion_of_duration, expansion_of_names, expansion_of_list, extent_at, extent_of}, Names.count_of}
-use Rattle.timeline.specs.Names.{asks_for_time}
+use Rattle.timeline.specs.{declared.span.Span.Span, declared.names.Names.Names}
+use Rattle.timeline.specs.Expansions.{Extent, Member, Closed, Short, Endless, lasting, is_open}
+use Rattle.timeline.specs.{Limits.{breaks_limits, span_breaks_limits}, Timelines.expansion_of_timeline}
+use Rattle.timeline.specs.Durations.{expansion_of_duration, expansion_of_names, expansion_of_list, extent_at, extent_of}
+use Rattle.timeline.specs.Names.{count_of, asks_for_time}
+use Rattle.mpd_entries.specs.declared.entry.SEntry.{SEntry}
 
 -- want of memory tells nothing of the times
 abbrev pub refusal : TimeFault → Option TimeFault

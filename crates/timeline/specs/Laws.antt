@@ -1,9 +1,10 @@
 -- Each segment ends after the one before it.
 use Rattle.std.specs.{Prelude.{◌≡◌, ℕ, ◌<◌, ◌==◌, false, List, map, Option, None}, List.list_any}
 use Rattle.exact_time.specs.Time.{Time, AreRising}
-use Rattle.timeline.specs.{declared.entry.SEntry.SEntry, declared.entry.Scale.Scale, declared.entry.End.End, declared.span.Span.Span}
-use Rattle.timeline.specs.{Expansions.{Member, extents}, Timelines.expansion_of_timeline, Durations.{expansion_of_list, extent_of}}
+use Rattle.timeline.specs.{declared.entry.Scale.Scale, declared.entry.End.End, declared.span.Span.Span, Expansions.{Member, extents}}
+use Rattle.timeline.specs.{Timelines.expansion_of_timeline, Durations.{expansion_of_list, extent_of}}
 use Rattle.timeline.specs.Faults.{segment_fault, lasts_no_time, members_by, is_too_many}
+use Rattle.mpd_entries.specs.declared.entry.SEntry.{SEntry}
 
 abbrev pub EndsRise : List Member → Type 0
 EndsRise members = (instant : Time) → AreRising (map (λ x. x.end) (extents instant members))

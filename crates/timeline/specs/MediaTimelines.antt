@@ -2,14 +2,15 @@
 use Rattle.std.specs.Prelude.{◌≡◌, ℕ, ◌+◌, ◌*◌, ◌<◌, ◌≤◌, ◌^◌, ◌==◌, pos, ◌+ℤ◌, Bool, false, ◌||◌, nat_lt, max, List, [], ◌∷◌, ◌++◌, map}
 use Rattle.std.specs.{Prelude.{drop, length, All, Option, Some, None, Result, if◌then◌else◌}, List.list_any}
 use Rattle.exact_time.specs.Time.{Time}
-use Rattle.timeline.specs.{declared.entry.SEntry.SEntry, declared.entry.Scale.Scale, declared.entry.End.End}
-use Rattle.timeline.specs.{declared.fault.TimeFault.TimeFault, declared.fault.TimeFault.TheVariants.Range, declared.limits.Limits.Limits}
-use Rattle.timeline.specs.{declared.media_run.MediaRun.MediaRun, declared.names.Names.Names}
-use Rattle.timeline.specs.{declared.media_runs.MediaRuns.MediaRuns, declared.shared_timeline.LaidTimeline.LaidTimeline}
-use Rattle.timeline.specs.{declared.timelines.Reach.TheVariants.Count, Building.{breaks_in, placed_in}, Expansions.{Member, Closed}}
-use Rattle.timeline.specs.{Expansions.SegmentTimeline, Faults.{ends_open, segment_fault}, Ratios.natural, Reaches.{IsReach, start_of}}
-use Rattle.timeline.specs.{RunSegments.{AreLaid, TimedRun, all_extents, placed_run}, SegmentTimelines.timeline_of_members}
-use Rattle.timeline.specs.{Steady.AreLasting, Timelines.{expansion_of_timeline, extent_from, members_from, reach_of}}
+use Rattle.timeline.specs.{declared.entry.Scale.Scale, declared.entry.End.End, declared.fault.TimeFault.TimeFault}
+use Rattle.timeline.specs.{declared.fault.TimeFault.TheVariants.Range, declared.limits.Limits.Limits, declared.media_run.MediaRun.MediaRun}
+use Rattle.timeline.specs.{declared.names.Names.Names, declared.media_runs.MediaRuns.MediaRuns}
+use Rattle.timeline.specs.{declared.shared_timeline.LaidTimeline.LaidTimeline, declared.timelines.Reach.TheVariants.Count}
+use Rattle.timeline.specs.{Building.{breaks_in, placed_in}, Expansions.{Member, Closed, SegmentTimeline}, Faults.{ends_open, segment_fault}}
+use Rattle.timeline.specs.{Ratios.natural, Reaches.{IsReach, start_of}, RunSegments.{AreLaid, TimedRun, all_extents, placed_run}}
+use Rattle.timeline.specs.{SegmentTimelines.timeline_of_members, Steady.AreLasting}
+use Rattle.timeline.specs.Timelines.{expansion_of_timeline, extent_from, members_from, reach_of}
+use Rattle.mpd_entries.specs.declared.entry.SEntry.{SEntry}
 
 -- the S elements that have no run here
 abbrev pub rest_of : List SEntry → MediaRuns → List SEntry

@@ -4,8 +4,8 @@ use Rattle.template_ids.specs.Templates.{named, uses_time}
 use Rattle.url_parts.specs.{Addresses.resolve, declared.address.Part.Part, declared.range.Range.Range, declared.fault.UrlFault.UrlFault}
 use Rattle.url_parts.specs.declared.fault.UrlFault.TheVariants.{Refused, Memory as NoRoom}
 use Rattle.timeline.specs.{declared.fault.ListFault.ListFault, declared.fault.ListFault.TheVariants.{Url, Memory}}
-use Rattle.timeline.specs.{declared.names.RefPart.RefPart, declared.names.Names.Names, declared.names.Names.TheVariants.Template}
-use Rattle.timeline.specs.declared.names.Names.TheVariants.{List as Listed, Shared, Addresses}
+use Rattle.timeline.specs.{declared.names.Names.Names, declared.names.Names.TheVariants.{Template, List as Listed, Shared, Addresses}}
+use Rattle.mpd_entries.specs.declared.ref_part.RefPart.{RefPart}
 
 -- how many names a list has
 abbrev pub count_of : Names → Option ℕ

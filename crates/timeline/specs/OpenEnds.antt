@@ -1,10 +1,11 @@
 -- When segments go on to an end that isn't known yet, and how many of them there are by an instant.
 use Rattle.std.specs.Prelude.{◌≡◌, ◌↔◌, ℕ, ◌<◌, Bool, false, ◌&&◌, List, slice_get, IfSome, is_none, Ok}
 use Rattle.exact_time.specs.Time.{Time, IsTime, IsAtMost}
-use Rattle.timeline.specs.{declared.entry.SEntry.SEntry, declared.entry.Scale.Scale, declared.entry.End.End, declared.names.Names.Names}
-use Rattle.timeline.specs.{declared.span.Span.Span, declared.window.Window.Window, Expansions.{Extent, SegmentTimeline, ended_by, is_open}}
-use Rattle.timeline.specs.{Expansions.repeated, Faults.is_unbounded, Listed.{IsReached, IsWindowOf, expansion}, Names.count_of}
+use Rattle.timeline.specs.{declared.entry.Scale.Scale, declared.entry.End.End, declared.names.Names.Names, declared.span.Span.Span}
+use Rattle.timeline.specs.{declared.window.Window.Window, Expansions.{Extent, SegmentTimeline, ended_by, is_open, repeated}}
+use Rattle.timeline.specs.{Faults.is_unbounded, Listed.{IsReached, IsWindowOf, expansion}, Names.count_of}
 use Rattle.timeline.specs.{SegmentTimelines.{timeline_of_entries, timeline_of_duration, timeline_of_spans}, Steady.LastsTicks}
+use Rattle.mpd_entries.specs.declared.entry.SEntry.{SEntry}
 
 -- segments may go on only in a dynamic MPD, to an open end, and where a template names them
 abbrev pub may_be_open : Bool → End → Names → Bool

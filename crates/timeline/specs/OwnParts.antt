@@ -1,12 +1,12 @@
 -- Segments whose names are addresses already: none lacks its own, and it is made with that.
 use Rattle.std.specs.Prelude.{◌≡◌, ℕ, ◌+◌, ◌-◌, ◌<◌, Bool, List, length, map, All, IfSome, MatchOption, slice_get, Some, Ok}
 use Rattle.url_parts.specs.{Addresses.IsAddress, declared.address.Part.Part}
-use Rattle.timeline.specs.{declared.entry.SEntry.SEntry, declared.entry.Scale.Scale, declared.entry.End.End}
-use Rattle.timeline.specs.{declared.fault.ListFault.ListFault, declared.fault.ListFault.TheVariants.Memory, declared.names.RefPart.RefPart}
-use Rattle.timeline.specs.{declared.names.Names.TheVariants.{List as Listed, Addresses}, declared.span.Span.Span}
-use Rattle.timeline.specs.{declared.window.Window.Window, Expansions.{SegmentTimeline, Timing}, Listed.{IsHeld, IsMade, Made, Rest}}
-use Rattle.timeline.specs.{Listed.{expansion, listed_from, part_of_timing}, Names.part_of, SegmentTimelines.timeline_of_entries}
-use Rattle.timeline.specs.SegmentTimelines.{timeline_of_duration, timeline_of_spans}
+use Rattle.timeline.specs.{declared.entry.Scale.Scale, declared.entry.End.End, declared.fault.ListFault.ListFault}
+use Rattle.timeline.specs.{declared.fault.ListFault.TheVariants.Memory, declared.names.Names.TheVariants.{List as Listed, Addresses}}
+use Rattle.timeline.specs.{declared.span.Span.Span, declared.window.Window.Window, Expansions.{SegmentTimeline, Timing}}
+use Rattle.timeline.specs.{Listed.{IsHeld, IsMade, Made, Rest, expansion, listed_from, part_of_timing}, Names.part_of}
+use Rattle.timeline.specs.SegmentTimelines.{timeline_of_entries, timeline_of_duration, timeline_of_spans}
+use Rattle.mpd_entries.specs.{declared.entry.SEntry.SEntry, declared.ref_part.RefPart.RefPart}
 
 -- segment k has the first number and k
 abbrev pub AreNumbered : Type 0

@@ -1,13 +1,14 @@
 -- How far the segments of an S go on, as the code finds it out.
-use Rattle.std.specs.Prelude.{◌≡◌, ℕ, ◌+◌, ◌-◌, ◌*◌, ◌<◌, ◌≤◌, ◌==◌, ◌⊎◌, Bool, false, List, [], ◌∷◌, ◌++◌, map, IfSome, IsNone, Some, None}
-use Rattle.std.specs.{Prelude.unwrap_or, List.list_any}
+use Rattle.std.specs.Prelude.{◌≡◌, ℕ, ◌+◌, ◌-◌, ◌*◌, ◌<◌, ◌≤◌, ◌==◌, ◌⊎◌, Bool, false, List, [], ◌∷◌, ◌++◌, map, IfSome, IsNone, Some}
+use Rattle.std.specs.{Prelude.{None, unwrap_or}, List.list_any}
 use Rattle.exact_time.specs.Floor.{IsCeiling}
-use Rattle.timeline.specs.{declared.entry.SEntry.SEntry, declared.entry.Scale.Scale, declared.entry.End.End}
-use Rattle.timeline.specs.{declared.fault.TimeFault.TimeFault, declared.builder.RunsBuilder.RunsBuilder, declared.limits.Limits.Limits}
-use Rattle.timeline.specs.{declared.timelines.Reach.Reach as Found, declared.timelines.Reach.TheVariants.{Count, Open, Nowhere}}
-use Rattle.timeline.specs.{Expansions.{Extent, Member, Closed, Short, repeated}, Faults.{refusal, segment_fault}, Building.IsLaidOut}
-use Rattle.timeline.specs.{Building.{IsInTime, breaks_in, former_end, members_so_far}, Timelines.{Reach, Unending, count_of, extent_from}}
-use Rattle.timeline.specs.Timelines.{members_of, members_from, reach_of}
+use Rattle.timeline.specs.{declared.entry.Scale.Scale, declared.entry.End.End, declared.fault.TimeFault.TimeFault}
+use Rattle.timeline.specs.{declared.builder.RunsBuilder.RunsBuilder, declared.limits.Limits.Limits, declared.timelines.Reach.Reach as Found}
+use Rattle.timeline.specs.declared.timelines.Reach.TheVariants.{Count, Open, Nowhere}
+use Rattle.timeline.specs.{Expansions.{Extent, Member, Closed, Short, repeated}, Faults.{refusal, segment_fault}}
+use Rattle.timeline.specs.Building.{IsLaidOut, IsInTime, breaks_in, former_end, members_so_far}
+use Rattle.timeline.specs.Timelines.{Reach, Unending, count_of, extent_from, members_of, members_from, reach_of}
+use Rattle.mpd_entries.specs.declared.entry.SEntry.{SEntry}
 
 -- the segments from a start on that it takes up to a bound
 abbrev pub IsUpTo : ℕ → ℕ → ℕ → Found → Type 0

@@ -1,10 +1,10 @@
 -- What the constructors of `Runs` give.
 use Rattle.std.specs.{Prelude.{ℕ, ◌==◌, Bool, List, not, Option, Some, None, Result, Ok, Err, IsSome}, List.list_any}
-use Rattle.timeline.specs.{declared.fault.TimeFault.TimeFault, declared.fault.TimeFault.TheVariants.ListLength}
-use Rattle.timeline.specs.{declared.entry.SEntry.SEntry, declared.entry.Scale.Scale, declared.entry.End.End, declared.span.Span.Span}
-use Rattle.timeline.specs.{declared.names.Names.Names, Expansions.{SegmentTimeline, Member}, Timelines.expansion_of_timeline}
-use Rattle.timeline.specs.{Durations.expansion_of_list, Faults.{duration_fault, list_fault, members_by, members_fault, are_paired}}
-use Rattle.timeline.specs.{Faults.{ends_open, fault_if}, Names.count_of}
+use Rattle.timeline.specs.{declared.fault.TimeFault.TimeFault, declared.fault.TimeFault.TheVariants.ListLength, declared.entry.Scale.Scale}
+use Rattle.timeline.specs.{declared.entry.End.End, declared.span.Span.Span, declared.names.Names.Names}
+use Rattle.timeline.specs.{Expansions.{SegmentTimeline, Member}, Timelines.expansion_of_timeline, Durations.expansion_of_list}
+use Rattle.timeline.specs.{Faults.{duration_fault, list_fault, members_by, members_fault, are_paired, ends_open, fault_if}, Names.count_of}
+use Rattle.mpd_entries.specs.declared.entry.SEntry.{SEntry}
 
 abbrev pub unless_fault : Option TimeFault → SegmentTimeline → Result SegmentTimeline TimeFault
 unless_fault None timeline = Ok timeline

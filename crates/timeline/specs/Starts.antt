@@ -1,8 +1,9 @@
 -- Segments begin at whole ticks of their timeline.
 use Rattle.std.specs.Prelude.{◌≡◌, ℕ, Bool, List, All, Ok}
-use Rattle.timeline.specs.{declared.entry.SEntry.SEntry, declared.entry.Scale.Scale, declared.entry.End.End, declared.names.Names.Names}
-use Rattle.timeline.specs.{declared.span.Span.Span, declared.window.Window.Window, Expansions.SegmentTimeline, Listed.listed_from}
+use Rattle.timeline.specs.{declared.entry.Scale.Scale, declared.entry.End.End, declared.names.Names.Names, declared.span.Span.Span}
+use Rattle.timeline.specs.{declared.window.Window.Window, Expansions.SegmentTimeline, Listed.listed_from}
 use Rattle.timeline.specs.SegmentTimelines.{timeline_of_entries, timeline_of_duration, timeline_of_spans}
+use Rattle.mpd_entries.specs.declared.entry.SEntry.{SEntry}
 
 -- each listed start is counted in the timeline's ticks
 abbrev pub StartInTicks : SegmentTimeline → Type 0

@@ -1,9 +1,9 @@
 -- The segments of a SegmentTimeline: ISO/IEC 23009-1, 5.3.9.6.
 use Rattle.std.specs.Prelude.{ℕ, ◌+◌, ◌*◌, ℤ, pos, negsuc, ◌-ℤ◌, List, [], ◌∷◌, ◌++◌, map, Option, Some, None, unwrap_or, if◌then◌else◌}
 use Rattle.exact_time.specs.Time.{Time, difference, at_most, nanoseconds}
-use Rattle.timeline.specs.{declared.entry.SEntry.SEntry, declared.entry.Scale.Scale, declared.entry.End.End}
-use Rattle.timeline.specs.{declared.entry.End.TheVariants.{At, Unbounded}, Ratios.steps_to_cover, Expansions.{Extent, Member, Closed}}
-use Rattle.timeline.specs.Expansions.{Short, Endless, lasting, repeated}
+use Rattle.timeline.specs.{declared.entry.Scale.Scale, declared.entry.End.End, declared.entry.End.TheVariants.{At, Unbounded}}
+use Rattle.timeline.specs.{Ratios.steps_to_cover, Expansions.{Extent, Member, Closed, Short, Endless, lasting, repeated}}
+use Rattle.mpd_entries.specs.declared.entry.SEntry.{SEntry}
 
 -- a media time, counted from the Period's start
 abbrev pub placed : Scale → ℕ → Time

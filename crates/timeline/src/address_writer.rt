@@ -15,7 +15,7 @@ use url_parts::{Range, Resolver};
 /// Writes the addresses of a Representation's segments, each in the place of the one before.
 ///
 /// In a contract it is the segments with their names, and the address that was written last.
-#[derive(Debug, Drop)]
+#[derive(Drop)]
 pub struct AddressWriter<'a> {
     runs: &'a Runs,
     /// The folder of all names, where each is that of a file.

@@ -8,7 +8,7 @@ use exact_time::Tick;
 const FARTHEST: i128 = 1 << 95;
 
 /// A time: a number of units, of which so many make a second.
-#[derive(Clone, Copy, Debug)]
+#[derive(Clone, Copy)]
 pub struct Bound {
     count: i128,
     unit: u32,

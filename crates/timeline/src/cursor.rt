@@ -2,7 +2,7 @@
 use std::marker::Model;
 
 /// A place among the segments of a Representation. In a contract it is the number of segments before it.
-#[derive(Clone, Copy, Debug, PartialEq, Eq)]
+#[derive(Clone, Copy, PartialEq, Eq)]
 pub struct Cursor {
     place: u64,
 }

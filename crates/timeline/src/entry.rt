@@ -4,21 +4,8 @@ ghost use Rattle.std.specs.Prelude.{◌<◌, ◌^◌};
 use crate::limits::Limits;
 use exact_time::Nanos;
 
-/// An S element of a SegmentTimeline (ISO/IEC 23009-1, 5.3.9.6), in ticks.
-#[derive(Clone, Copy, Debug, PartialEq, Eq)]
-pub struct SEntry {
-    /// Where its first segment begins in media time. Where it is absent, the segment begins where the one before it
-    /// ends, and at 0 in the first S.
-    pub t: Option<u64>,
-    /// How long each of its segments lasts.
-    pub d: u64,
-    /// How many more segments follow the first one; where it is negative, they go on up to the next S, and in the last
-    /// S up to the Period's end.
-    pub r: i64,
-}
-
 /// Where a Period ends.
-#[derive(Clone, Copy, Debug, PartialEq, Eq)]
+#[derive(Clone, Copy, PartialEq, Eq)]
 pub enum End {
     /// After this length.
     At(Nanos),
@@ -27,7 +14,7 @@ pub enum End {
 }
 
 /// How media times are counted, and how segments are numbered.
-#[derive(Clone, Copy, Debug)]
+#[derive(Clone, Copy)]
 pub struct Scale {
     /// How many ticks make a second.
     pub ticks: u32,

@@ -21,7 +21,6 @@ mod run;
 mod run_slice;
 mod run_table;
 mod runs;
-mod shared_names;
 mod shared_timeline;
 mod span;
 mod spans;
@@ -32,29 +31,23 @@ mod window;
 pub use address_writer::AddressWriter;
 use bridge_io::Sequence;
 pub use cursor::Cursor;
-pub use entry::{End, SEntry, Scale};
+pub use entry::{End, Scale};
 pub use fault::{ListFault, TimeFault};
 pub use laws::{
     closed_ends, ends_rise, open_ends, own_addresses, own_addresses_made, starts_in_ticks,
 };
 pub use listing::{Listing, Segment};
-pub use names::{Names, RefPart};
+pub use mpd_entries::{RefList, RefPart, SEntry, SList, SharedNames};
+pub use names::Names;
 pub use runs::Runs;
-pub use shared_names::SharedNames;
 pub use shared_timeline::SharedTimeline;
 pub use span::{Span, SpanRun};
 pub use time_walk::TimeWalk;
 use url_parts::Part;
 pub use window::Window;
 
-/// The S elements of a SegmentTimeline.
-pub type SList = Sequence<SEntry>;
-
 /// Times of segments.
 pub type SpanList = Sequence<Span>;
-
-/// The names of a list's segments.
-pub type RefList = Sequence<RefPart>;
 
 /// The addresses of segments, with their ranges.
 pub type PartList = Sequence<Part>;

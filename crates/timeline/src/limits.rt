@@ -11,7 +11,7 @@ pub const LONGEST: u64 = 1_000_000;
 pub const FARTHEST: u64 = 100_000_000_000;
 
 /// The limits of segments that are counted in ticks.
-#[derive(Clone, Copy, Debug)]
+#[derive(Clone, Copy)]
 pub struct Limits {
     /// How many ticks make a second.
     pub ticks: u32,

@@ -11,7 +11,7 @@ use std::marker::Model;
 use url_parts::{Address, Part, Range, Resolver};
 
 /// A segment: its address, its range and its times. Only a `Listing` makes one.
-#[derive(Debug, Drop)]
+#[derive(Drop)]
 pub struct Segment {
     part: Part,
     span: Span,
@@ -61,7 +61,7 @@ impl Segment {
 /// The segments of a Representation in order, each made when it is asked for.
 ///
 /// In a contract it is the segments with their names, and the times of those that are left.
-#[derive(Debug, Drop)]
+#[derive(Drop)]
 pub struct Listing<'a> {
     runs: &'a Runs,
     walk: TimeWalk<'a>,

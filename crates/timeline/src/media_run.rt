@@ -7,7 +7,7 @@ use crate::run::Run;
 
 /// Segments of equal duration in media ticks, each beginning where the one before it ends. How many ticks make a second
 /// isn't told, so that Representations of different timescales share them.
-#[derive(Clone, Copy, Debug)]
+#[derive(Clone, Copy)]
 pub struct MediaRun {
     /// The media time at which the first one begins.
     pub start: u64,

@@ -9,7 +9,7 @@ use bridge_io::NoMemory;
 use std::alloc::Global;
 
 /// The runs of S elements in media time so far.
-#[derive(Debug, Drop)]
+#[derive(Drop)]
 pub struct MediaRuns {
     pub runs: Vec<MediaRun>,
     /// How many segments they have.

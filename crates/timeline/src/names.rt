@@ -7,7 +7,7 @@ ghost use Rattle.timeline.specs.FileNames.{AreInFolder, IsFolder, are_files, fil
 ghost use Rattle.timeline.specs.Names.{list_refusal, listed_part, own_part, part_at};
 ghost use Rattle.url_parts.specs.Addresses.{resolve};
 
-use crate::{ListFault, PartList, RefList, SharedNames};
+use crate::{ListFault, PartList, RefList, RefPart, SharedNames};
 use bridge_io::{NoMemory, Text};
 use std::alloc::Global;
 use template_ids::{BorrowedIds, Template};
@@ -17,17 +17,8 @@ use url_parts::{Base, Part, Range, Resolver, UrlFault};
 /// the longest address 2,048.
 const MAX_BASE_LEN: usize = 1793;
 
-/// A SegmentURL of a SegmentList (ISO/IEC 23009-1, 5.3.9.3).
-#[derive(Debug, Drop)]
-pub struct RefPart {
-    /// Its `@media`. Where it is absent, the base itself is the address.
-    pub reference: Option<Text>,
-    /// Its `@mediaRange`.
-    pub range: Option<Range>,
-}
-
 /// The names of a Representation's segments, and the base against which they are resolved.
-#[derive(Debug, Drop)]
+#[derive(Drop)]
 pub enum Names {
     /// A template with the Representation's id and bandwidth.
     Template {

@@ -8,7 +8,7 @@ use exact_time::Tick;
 /// Segments of equal duration, each beginning where the one before it ends.
 ///
 /// Where there are several, the first one's start and end are ticks of one scale.
-#[derive(Clone, Copy, Debug)]
+#[derive(Clone, Copy)]
 pub struct Run {
     /// Where the first one begins and ends.
     pub start: Tick,
@@ -126,7 +126,7 @@ impl Run {
 }
 
 /// Segments of equal duration that go on without end.
-#[derive(Clone, Copy, Debug)]
+#[derive(Clone, Copy)]
 pub struct Endless {
     pub start: Tick,
     pub step: u64,

@@ -5,7 +5,7 @@ use crate::media_run::MediaRun;
 use crate::run::Run;
 
 /// Runs in order: first some in media time, and then some with times of their own.
-#[derive(Clone, Copy, Debug)]
+#[derive(Clone, Copy)]
 pub struct RunSlice<'a> {
     media: &'a [MediaRun],
     /// How the times of the former are counted.
@@ -14,7 +14,7 @@ pub struct RunSlice<'a> {
 }
 
 /// What runs are sought by.
-#[derive(Clone, Copy, Debug)]
+#[derive(Clone, Copy)]
 pub enum Test {
     /// All segments of the run stand before this place.
     EndsBy(u64),

@@ -6,7 +6,7 @@ use crate::shared_timeline::LaidTimeline;
 use std::rc::Rc;
 
 /// The runs of a Representation: those of a timeline that it shares with others, and behind them its own.
-#[derive(Debug, Drop)]
+#[derive(Drop)]
 pub struct RunTable {
     pub laid: Option<Rc<LaidTimeline>>,
     pub own: Vec<Run>,

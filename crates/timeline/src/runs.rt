@@ -13,7 +13,7 @@ use std::marker::Model;
 /// The segments of a Representation in one Period, with their names.
 ///
 /// In a contract it is what its segments are at every instant, their numbers and their names.
-#[derive(Debug, Drop)]
+#[derive(Drop)]
 pub struct Runs {
     pub(crate) table: RunTable,
     /// The segments behind them that go on to an open end.

@@ -12,7 +12,7 @@ use std::marker::Model;
 use std::rc::Rc;
 
 /// The S elements of a timeline: the runs of the first ones, and those that are left.
-#[derive(Debug, Drop)]
+#[derive(Drop)]
 pub struct LaidTimeline {
     /// The runs of the first S elements, up to one that has none for every timescale.
     pub media: MediaRuns,
@@ -35,7 +35,7 @@ impl LaidTimeline {
 /// hold of it, and no copy.
 ///
 /// In a contract it is what was laid out, and `LaysOut` says of which S elements.
-#[derive(Debug, Drop)]
+#[derive(Drop)]
 pub struct SharedTimeline {
     laid: Rc<LaidTimeline>,
 }

@@ -33,7 +33,7 @@ impl Span {
 }
 
 /// Segments that follow one another, each as long as the first one and beginning where the one before it ends.
-#[derive(Clone, Copy, Debug, PartialEq, Eq)]
+#[derive(Clone, Copy, PartialEq, Eq)]
 pub struct SpanRun {
     pub first: Span,
     /// How long each one lasts, in ticks of the first one's scale. It tells nothing where there is one alone.

@@ -12,7 +12,7 @@ use std::marker::Model;
 /// The times and numbers of segments in order. The next ones take a few additions each, and no division.
 ///
 /// In a contract it is the times of the segments that are left.
-#[derive(Debug, Drop)]
+#[derive(Drop)]
 pub struct TimeWalk<'a> {
     /// What is left of the run that the next segment stands in.
     now: Option<Run>,

@@ -16,7 +16,7 @@ use exact_time::ceil_count;
 use std::alloc::Global;
 
 /// How far the segments of an S go on.
-#[derive(Clone, Copy, Debug)]
+#[derive(Clone, Copy)]
 pub enum Reach {
     /// So many segments.
     Count(u128),

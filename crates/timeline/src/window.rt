@@ -5,7 +5,7 @@ use crate::bound::Bound;
 /// are nanoseconds from the Period's start.
 ///
 /// Segments that go on to an open end of their Period are those that end by `until`.
-#[derive(Clone, Copy, Debug, PartialEq, Eq)]
+#[derive(Clone, Copy, PartialEq, Eq)]
 pub struct Window {
     pub after: Option<i128>,
     pub until: Option<i128>,

@@ -11,7 +11,7 @@ use std::rc::Rc;
 /// section 4.5, writes. Its bytes are 0x21 to 0x7E without `"`.
 ///
 /// Copies share one text.
-#[derive(Debug, Drop)]
+#[derive(Drop)]
 pub struct Address {
     text: Rc<Text>,
 }
@@ -57,7 +57,7 @@ impl Address {
 }
 
 /// A file, or a range of its bytes (ISO/IEC 23009-1, 5.3.9.2.2; RFC 8216, 4.3.2.2).
-#[derive(Debug, Drop)]
+#[derive(Drop)]
 pub struct Part {
     /// Where the file lies.
     pub address: Address,

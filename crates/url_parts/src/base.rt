@@ -20,7 +20,7 @@ const MAX_LEN: usize = 2048;
 /// An address against which references are resolved (RFC 3986, 5.1; ISO/IEC 23009-1, 5.6.4).
 ///
 /// Copies share one URL.
-#[derive(Debug, Drop)]
+#[derive(Drop)]
 pub struct Base {
     url: Rc<Url>,
     /// How many bytes of the text its folder has.

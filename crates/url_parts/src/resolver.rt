@@ -11,7 +11,7 @@ use std::marker::Model;
 
 /// Resolves references one after another. It keeps the folder of an address that it gave: absolute references to files
 /// in that folder aren't parsed.
-#[derive(Debug, Drop)]
+#[derive(Drop)]
 pub struct Resolver {
     folder: Option<Folder>,
 }
@@ -45,7 +45,7 @@ impl Resolver {
 }
 
 /// The folder of an address.
-#[derive(Debug, Drop)]
+#[derive(Drop)]
 struct Folder {
     address: Address,
     /// How many bytes of the address it has.

@@ -1,11 +1,10 @@
-use Rattle.std.proofs.Common.{Ok, ◌∙◌, ap, map}
-use Rattle.bridge_io.specs.Answer.{and_then}
-use Rattle.presentation.specs.Told.{told_as}
 use Rattle.bridge_report.specs.declared.refusal.Refusal.TheVariants as refusal
+use Rattle.bridge_playlists.proofs.presented.master_in.Goals as goal
+use Rattle.std.proofs.Common.{Ok, ◌∙◌, ap, map}
+use Rattle.bridge_io.specs.Answer.{and_then, told_as}
 use Rattle.bridge_report.specs.Reading.{of_file}
 use Rattle.bridge_playlists.specs.Playlists.{master_in, track_kept}
 use Rattle.bridge_playlists.proofs.Kept.{tracks_again}
-use Rattle.bridge_playlists.proofs.presented.master_in.Goals as goal
 
 pub returns-in-Ok-clause-master : goal.returns-in-Ok-clause-master
 unfolding master_in

@@ -1,14 +1,14 @@
+use Rattle.bridge_reach.proofs.dash_times.runs_at.Goals as goal
 use Rattle.presentation.proofs.Filling.{ok_under}
 use Rattle.fragment_times.specs.Durations.{durations_of}
 use Rattle.bridge_reach.specs.FileTimes.{named_by}
 use Rattle.bridge_reach.proofs.Counted.{can_be_timed}
-use Rattle.bridge_reach.proofs.dash_times.runs_at.Goals as goal
 
 pub times_at-requires : goal.times_at-requires
-times_at-requires g c = c.segments_can_be_listed.ensures.playlists c.args.presentation.now c.requires
+times_at-requires g c = c.playlists_can_be_listed.ensures c.args.presentation.now c.requires
 
 pub durations_at-requires-clause-listable : goal.durations_at-requires-clause-listable
-durations_at-requires-clause-listable g c = c.segments_can_be_listed.ensures.playlists c.args.presentation.now c.requires
+durations_at-requires-clause-listable g c = c.playlists_can_be_listed.ensures c.args.presentation.now c.requires
 
 pub returns-clause-can : goal.returns-clause-can
 returns-clause-can g c =

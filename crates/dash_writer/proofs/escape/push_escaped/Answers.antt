@@ -1,6 +1,6 @@
 use Rattle.dash_writer.proofs.escape.push_escaped.Goals as goal
 use Rattle.std.proofs.{Common.{drop, sym, ◌∙◌, arith}, lemmas.List.{append-nil, take_rest}}
-use Rattle.mpd_text.specs.Escapes.{escape_all}
+use Rattle.mpd_tree.specs.Escapes.{escape_all}
 use Rattle.bridge_io.proofs.Adding.{adds_same}
 use Rattle.dash_writer.proofs.{Escaping.{first_parts, found_at, none_escaped}, Progress.{ends, fails, further, nothing_yet}}
 

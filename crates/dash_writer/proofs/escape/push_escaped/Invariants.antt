@@ -1,7 +1,7 @@
-use Rattle.std.proofs.Common.{length}
-use Rattle.mpd_text.specs.Escapes.{escape_all}
-use Rattle.dash_writer.proofs.Progress.{Progress}
 use Rattle.dash_writer.proofs.escape.push_escaped.Given as goal
+use Rattle.std.proofs.Common.{length}
+use Rattle.mpd_tree.specs.Escapes.{escape_all}
+use Rattle.dash_writer.proofs.Progress.{Progress}
 
 abbrev pub invariant-loop-place : goal.invariant-loop-place
 invariant-loop-place g l =

@@ -1,7 +1,7 @@
 use Rattle.fragment_times.proofs.times.fragment_times.Given as goal
 use Rattle.std.proofs.Common.{◌≡◌, ◌≤◌, ◌*◌, All, Some, length}
-use Rattle.bridge_io.specs.Outside.{Files}
-use Rattle.presentation.specs.{Counting.sections_of, Told.gathered}
+use Rattle.bridge_io.specs.{Outside.Files, Answer.gathered}
+use Rattle.presentation.specs.Counting.{sections_of}
 use Rattle.presentation.proofs.Counts.{from_on}
 use Rattle.fragment_times.specs.Times.{IsScaled, behind, section_times}
 

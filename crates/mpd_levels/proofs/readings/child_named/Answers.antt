@@ -1,6 +1,6 @@
 use Rattle.mpd_levels.proofs.readings.child_named.Goals as goal
 use Rattle.std.proofs.{Common.{rules, tests}, lemmas.Iterator.Consumers.YieldsList-from_first, lemmas.Iterator.Search.find_from_yields_List}
-use Rattle.mpd_text.specs.Nodes.{element_of, elements_left}
+use Rattle.mpd_tree.specs.Nodes.{element_of, elements_left}
 use Rattle.mpd_profile.specs.Heads.{is_named}
 
 pub returns : goal.returns

@@ -1,7 +1,7 @@
 use Rattle.mpd_levels.proofs.tables.read_all_urls.Given as goal
 use Rattle.std.proofs.Common.{◌≡◌, ◌++◌, map, filter}
 use Rattle.std.specs.Prelude.{codes}
-use Rattle.mpd_text.specs.Nodes.{element_of, elements_left}
+use Rattle.mpd_tree.specs.Nodes.{element_of, elements_left}
 use Rattle.mpd_profile.specs.Heads.{is_named}
 use Rattle.mpd_levels.specs.{Readings.children_named, Segments.url_of}
 

@@ -1,7 +1,7 @@
 use Rattle.mpd_levels.proofs.tables.read_timeline.Given as goal
 use Rattle.std.proofs.Common.{◌≡◌, ◌++◌, All, map, filter}
 use Rattle.std.specs.Prelude.{codes}
-use Rattle.mpd_text.specs.Nodes.{element_of, elements_left}
+use Rattle.mpd_tree.specs.Nodes.{element_of, elements_left}
 use Rattle.mpd_profile.specs.Heads.{is_named}
 use Rattle.mpd_levels.specs.{Fits.FitsRun, Segments.{run_of, runs_of}}
 

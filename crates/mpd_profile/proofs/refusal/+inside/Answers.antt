@@ -1,6 +1,6 @@
 use Rattle.mpd_profile.proofs.refusal.+inside.Goals as goal
 use Rattle.std.proofs.{Common.{◌<◌, ◌∙◌, sym, arith}, lemmas.Result.err_from_is_err_and}
-use Rattle.mpd_text.specs.{Nodes.{element_of, elements_left}, Trees.depth}
+use Rattle.mpd_tree.specs.{Nodes.{element_of, elements_left}, Trees.depth}
 use Rattle.mpd_profile.specs.Passes.{parent_shown}
 use Rattle.mpd_profile.proofs.Passing.{around_is, at_end, at_first, at_next, inside_told, is_less, itself_told, nothing_inside}
 use Rattle.mpd_profile.proofs.Passing.{nothing_told, told_here}

@@ -1,6 +1,6 @@
 use Rattle.mpd_profile.proofs.refusal.+inside.Given as goal
 use Rattle.std.proofs.Common.{◌+◌, ◌*◌}
-use Rattle.mpd_text.specs.{Nodes.{element_of, elements_left}, Trees.depth}
+use Rattle.mpd_tree.specs.{Nodes.{element_of, elements_left}, Trees.depth}
 use Rattle.mpd_profile.specs.Passes.{parent_shown}
 use Rattle.mpd_profile.proofs.Passing.{IsAt}
 

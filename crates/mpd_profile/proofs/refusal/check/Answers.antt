@@ -2,7 +2,7 @@ use Rattle.mpd_profile.proofs.refusal.check.Goals as goal
 use Rattle.std.proofs.{Common.{◌≡◌, ◌++◌, Result, Ok, Err, refl, sym}, lemmas.Result.err_from_is_err_and}
 use Rattle.std.specs.Prelude.{OnOk}
 use Rattle.bridge_io.specs.Firsts.{first_fault}
-use Rattle.mpd_text.specs.{Nodes.root_of, Trees.Element}
+use Rattle.mpd_tree.specs.{Nodes.root_of, Trees.Element}
 use Rattle.mpd_profile.specs.{declared.fault.RuleFault.RuleFault, declared.listed.Addressing.Addressing}
 use Rattle.mpd_profile.specs.{declared.listed.Listed.TheVariants.Mpd, declared.visit.Pass.TheVariants.{Features, Values}, Heads.is_dynamic}
 use Rattle.mpd_profile.specs.{Passes.{refused_in, told_by}, Refusals.{feature_refusals, refusals_of, root_refusals, value_refusals}}

@@ -1,6 +1,6 @@
 use Rattle.mpd_profile.proofs.refusal.check_all.Goals as goal
 use Rattle.std.proofs.{Common.[], lemmas.Result.err_from_is_err_and}
-use Rattle.mpd_text.specs.Nodes.{element_of}
+use Rattle.mpd_tree.specs.Nodes.{element_of}
 use Rattle.mpd_profile.proofs.Passing.{root_told, root_untold}
 
 pub returns-in_err-check : goal.returns-in_err-check

@@ -1,7 +1,7 @@
-use Rattle.std.proofs.Common.{◌∙◌, sym}
-use Rattle.mpd_text.specs.Nodes.{element_of}
-use Rattle.mpd_profile.proofs.Walks.{untold}
 use Rattle.mpd_profile.proofs.refusal.is_untold.Goals as goal
+use Rattle.std.proofs.Common.{◌∙◌, sym}
+use Rattle.mpd_tree.specs.Nodes.{element_of}
+use Rattle.mpd_profile.proofs.Walks.{untold}
 
 pub returns-in-Segments : goal.returns-in-Segments
 returns-in-Segments c = λ is.

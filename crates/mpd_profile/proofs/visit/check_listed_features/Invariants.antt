@@ -1,8 +1,8 @@
+use Rattle.mpd_profile.proofs.visit.check_listed_features.Given as goal
 use Rattle.std.proofs.Common.{◌≡◌, Some}
 use Rattle.bridge_io.specs.Firsts.{first_fault}
-use Rattle.mpd_text.specs.Nodes.{attributes_left, element_of}
+use Rattle.mpd_tree.specs.Nodes.{attributes_left, element_of}
 use Rattle.mpd_profile.specs.Features.{attributes_told}
-use Rattle.mpd_profile.proofs.visit.check_listed_features.Given as goal
 
 abbrev pub invariant-loop-attr : goal.invariant-loop-attr
 invariant-loop-attr l =

@@ -1,9 +1,9 @@
+use Rattle.mpd_rules.proofs.children.kept_children.Given as goal
 use Rattle.std.proofs.Common.{◌≡◌, ◌+◌, ◌++◌, length, map, filter}
 use Rattle.std.specs.Prelude.{count_by, option_map}
-use Rattle.mpd_text.specs.Nodes.{element_of, elements_left}
+use Rattle.mpd_tree.specs.Nodes.{element_of, elements_left}
 use Rattle.mpd_profile.specs.LeftOut.{type_of}
 use Rattle.mpd_rules.specs.Kept.{is_kept, is_left, kept_children, left_children}
-use Rattle.mpd_rules.proofs.children.kept_children.Given as goal
 
 abbrev pub invariant-loop-child : goal.invariant-loop-child
 invariant-loop-child l = record {

@@ -1,11 +1,12 @@
 use Rattle.mpd_rules.proofs.passes.rules.Goals as goal
 use Rattle.std.proofs.{Common.{◌≡◌, true, Ok, refl, sym, subst}, lemmas.Result.err_from_is_err_and}
 use Rattle.bridge_io.specs.{Answer.Gives, Firsts.first_fault}
-use Rattle.mpd_text.specs.{Nodes.root_of, Trees.Element}
+use Rattle.mpd_tree.specs.{Nodes.root_of, Trees.Element}
 use Rattle.mpd_profile.specs.{declared.listed.Addressing.TheVariants.Segments, Heads.is_dynamic, Refusals.{refusal, refusals_of}}
 use Rattle.mpd_levels.specs.Segments.{segments_of}
-use Rattle.mpd_rules.specs.{Fits.FitsMpd, Rules.{all_refusals, dash_values, segments_refused, refusals_behind, typed_mpd_of}}
-use Rattle.mpd_rules.specs.{Rules.unless_refused, Typed.values_with, Views.segments_mpd}
+use Rattle.mpd_rules.specs.Fits.{FitsMpd}
+use Rattle.mpd_rules.specs.Rules.{all_refusals, dash_values, segments_refused, refusals_behind, typed_mpd_of, unless_refused}
+use Rattle.mpd_rules.specs.{Typed.values_with, Views.segments_mpd}
 use Rattle.mpd_rules.proofs.{Fitting.mpd_fits, Refusing.{first_of_more, none_first, unless_first}}
 
 meaning_is : (root : Element) → first_fault (refusals_of Segments root) ≡ Ok tt

@@ -1,13 +1,13 @@
 use Rattle.mpd_rules.proofs.passes.values.Goals as goal
 use Rattle.std.proofs.{Common.{◌≡◌, Ok, Some, map, length, ap, sym, ◌∙◌, arith}, lemmas.List.length-map, lemmas.Result.err_from_is_err_and}
 use Rattle.std.specs.Prelude.{codes}
-use Rattle.mpd_text.specs.Nodes.{element_of}
-use Rattle.mpd_rules.specs.{Built.{periods_refused, periods_shown}, Kept.{left_out_in, periods_of}, Periods.{bounds_of, first_start}}
-use Rattle.mpd_rules.specs.{Periods.{period_bounds, period_refusals, total_of}, Rules.{paths_told, refusals_behind, refused_at, silence_in}}
-use Rattle.mpd_rules.specs.{Rules.static_told, Typed.values_with}
+use Rattle.mpd_tree.specs.Nodes.{element_of}
+use Rattle.mpd_rules.specs.{Built.{periods_refused, periods_shown}, Kept.{left_out_in, periods_of}}
+use Rattle.mpd_rules.specs.Periods.{bounds_of, first_start, period_bounds, period_refusals, total_of}
+use Rattle.mpd_rules.specs.{Rules.{paths_told, refusals_behind, refused_at, silence_in, static_told}, Typed.values_with}
 use Rattle.mpd_rules.proofs.Meaning.{all_passed, bounds_count, fourth_first, mpd_is, no_period_left, periods_are, periods_told}
-use Rattle.mpd_rules.proofs.{Meaning.{silence_same, third_first}, Readable.named_readable, Refusing.{none_first, none_told, one_first}}
-use Rattle.mpd_rules.proofs.Refusing.{unless_first}
+use Rattle.mpd_rules.proofs.{Meaning.{silence_same, third_first}, Readable.named_readable}
+use Rattle.mpd_rules.proofs.Refusing.{none_first, none_told, one_first, unless_first}
 
 pub periods-requires-clause-count : goal.periods-requires-clause-count
 periods-requires-clause-count g c =

@@ -1,7 +1,7 @@
-use Rattle.mpd_text.specs.Nodes.{element_of}
+use Rattle.mpd_rules.proofs.periods.end_of.Goals as goal
+use Rattle.mpd_tree.specs.Nodes.{element_of}
 use Rattle.mpd_rules.specs.Fits.{FitsPeriod}
 use Rattle.mpd_rules.proofs.Walking.{all_here}
-use Rattle.mpd_rules.proofs.periods.end_of.Goals as goal
 
 pub start_of-requires : goal.start_of-requires
 start_of-requires c =

@@ -1,10 +1,10 @@
 use Rattle.mpd_rules.proofs.periods.read_bounds.Goals as goal
 use Rattle.std.proofs.Common.{◌≡◌, ◌+◌, ◌∷◌, ◌++◌, [], Ok, None, map, drop, sym, ◌∙◌, ap, subst, append_assoc, All}
 use Rattle.std.proofs.{lemmas.List.{append-nil, at_drop_all}, lemmas.Result.err_from_is_err_and}
-use Rattle.mpd_text.specs.Nodes.{element_of}
+use Rattle.mpd_tree.specs.Nodes.{element_of}
 use Rattle.mpd_rules.specs.{Fits.FitsPeriod, Periods.{bounds_of, order_told, period_bounds, period_refusals}, Rules.unless_refused}
-use Rattle.mpd_rules.proofs.{Bounding.{bounds_go_on, order_goes_on}, Refusing.{first_of_more, one_first, unless_first}, Walking.all_here}
-use Rattle.mpd_rules.proofs.Walking.{all_later, one_left, rest_is}
+use Rattle.mpd_rules.proofs.{Bounding.{bounds_go_on, order_goes_on}, Refusing.{first_of_more, one_first, unless_first}}
+use Rattle.mpd_rules.proofs.Walking.{all_here, all_later, one_left, rest_is}
 
 pub one_bounds-requires-clause-one : goal.one_bounds-requires-clause-one
 one_bounds-requires-clause-one c =

@@ -1,7 +1,7 @@
-use Rattle.std.proofs.Common.{◌≡◌, ◌++◌, map, drop, None}
-use Rattle.mpd_text.specs.Nodes.{element_of}
-use Rattle.mpd_rules.specs.Periods.{bounds_from, bounds_of, order_told, period_bounds}
 use Rattle.mpd_rules.proofs.periods.read_bounds.Given as goal
+use Rattle.std.proofs.Common.{◌≡◌, ◌++◌, map, drop, None}
+use Rattle.mpd_tree.specs.Nodes.{element_of}
+use Rattle.mpd_rules.specs.Periods.{bounds_from, bounds_of, order_told, period_bounds}
 
 abbrev pub invariant-loop-place : goal.invariant-loop-place
 invariant-loop-place l = record {

@@ -1,7 +1,7 @@
 use Rattle.mpd_rules.proofs.readings.first_base.Goals as goal
 use Rattle.std.proofs.{Common.{rules, tests}, lemmas.Iterator.Consumers.YieldsList-from_first, lemmas.Iterator.Search.find_from_yields_List}
 use Rattle.std.specs.Prelude.{codes}
-use Rattle.mpd_text.specs.Nodes.{element_of, elements_left}
+use Rattle.mpd_tree.specs.Nodes.{element_of, elements_left}
 use Rattle.mpd_profile.specs.Heads.{is_named}
 
 pub returns : goal.returns

@@ -1,7 +1,7 @@
 use Rattle.mpd_text.proofs.attributes.attributes_of.Given as goal
 use Rattle.std.proofs.Common.{◌≡◌, ◌-◌, length}
 use Rattle.mpd_text.specs.{Attributes.AreKnown, Keeping.{Stays, attributes_from, attributes_in}, Rests.IsEnd}
-use Rattle.mpd_text.specs.{Grammar.{attributes, next_attribute}, Productions.times}
+use Rattle.mpd_tree.specs.{Grammar.{attributes, next_attribute}, Productions.times}
 
 abbrev pub invariant-loop : goal.invariant-loop
 invariant-loop l = record {

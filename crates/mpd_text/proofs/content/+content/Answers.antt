@@ -2,11 +2,12 @@ use Rattle.mpd_text.proofs.content.+content.Goals as goal
 use Rattle.std.proofs.Common.{◌≡◌, suc, ◌+◌, ◌-◌, ◌∷◌, ◌++◌, [], length, refl, sym, ap, ◌∙◌, subst, arith, append_assoc, IfSome, Ok, Err}
 use Rattle.std.proofs.{lemmas.List.{append-nil, length-append}, lemmas.Result.err_from_is_err_and}
 use Rattle.std.specs.String.{string_bytes}
-use Rattle.mpd_text.specs.{Forests.{Shown, flat}, Keeping.shown_in, Grammar.inside, Reading.fault_in, Rests.{IsBehind, IsEnd}}
-use Rattle.mpd_text.specs.{Marked.marked_in_content, Runs.plain_at, Trees.nothing}
-use Rattle.mpd_text.proofs.{KeptRows.{cut_kept, cut_shown}, Rests.{Leaves, end_tag_rest, ends, ends_drop, ends_tail}, TextLoop.marked_ascii}
-use Rattle.mpd_text.proofs.{TextLoop.plain_parts, ContentLoop.{InsideReading, child_added, empty_added, filled, inside_read, leaf_is}}
-use Rattle.mpd_text.proofs.{ContentLoop.{piece_failed, piece_read, text_failed}, Loop.{failed, loop_cut, loop_failed, loop_stepped}}
+use Rattle.mpd_text.specs.{Keeping.shown_in, Rests.{IsBehind, IsEnd}}
+use Rattle.mpd_tree.specs.{Forests.{Shown, flat}, Grammar.inside, Reading.fault_in, Marked.marked_in_content, Runs.plain_at, Trees.nothing}
+use Rattle.mpd_text.proofs.{KeptRows.{cut_kept, cut_shown}, Rests.{Leaves, end_tag_rest, ends, ends_drop, ends_tail}}
+use Rattle.mpd_text.proofs.TextLoop.{marked_ascii, plain_parts}
+use Rattle.mpd_text.proofs.ContentLoop.{InsideReading, child_added, empty_added, filled, inside_read, leaf_is, piece_failed, piece_read}
+use Rattle.mpd_text.proofs.{ContentLoop.text_failed, Loop.{failed, loop_cut, loop_failed, loop_stepped}}
 
 pub content_of-returns-in_err-rest-clause-read : goal.content_of-returns-in_err-rest-clause-read
 content_of-returns-in_err-rest-clause-read t c =

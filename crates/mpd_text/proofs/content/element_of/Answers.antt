@@ -1,7 +1,8 @@
 use Rattle.mpd_text.proofs.content.element_of.Goals as goal
 use Rattle.std.proofs.{Common.{◌≡◌, [], length, refl, sym, ap, subst, arith, Ok, Err, IfSome}, lemmas.List.length-append}
 use Rattle.std.proofs.lemmas.Result.{err_from_is_err_and}
-use Rattle.mpd_text.specs.{Forests.Shown, Keeping.{last_head, shown_in}, Reading.fault_in, Rests.IsBehind, Trees.nothing}
+use Rattle.mpd_text.specs.{Keeping.{last_head, shown_in}, Rests.IsBehind}
+use Rattle.mpd_tree.specs.{Forests.Shown, Reading.fault_in, Trees.nothing}
 use Rattle.mpd_text.proofs.{ContentLoop.{InsideReading, child_added, element_is, empty_added, inside_read}, Loop.failed}
 
 pub inside_of-requires : goal.inside_of-requires

@@ -1,4 +1,4 @@
-use Rattle.mpd_text.specs.Grammar as grammar
+use Rattle.mpd_tree.specs.Grammar as grammar
 use Rattle.mpd_text.proofs.markup.behind_two.Given as goal
 use Rattle.std.proofs.Common.{◌≡◌, ◌+◌, length}
 

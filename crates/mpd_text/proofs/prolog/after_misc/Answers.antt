@@ -1,6 +1,6 @@
 use Rattle.mpd_text.proofs.prolog.after_misc.Goals as goal
 use Rattle.std.proofs.{Common.{Ok, refl, sym, ap}, lemmas.Result.err_from_is_err_and}
-use Rattle.mpd_text.specs.{Grammar.{misc, next_comment}, Productions.{◌>>=◌, many}, Runs.after_white}
+use Rattle.mpd_tree.specs.{Grammar.{misc, next_comment}, Productions.{◌>>=◌, many}, Runs.after_white}
 use Rattle.mpd_text.proofs.Loop.{failed, loop_cut, loop_failed, loop_stepped}
 
 pub returns-in_err-is_ended : goal.returns-in_err-is_ended

@@ -1,6 +1,6 @@
 use Rattle.mpd_text.proofs.read.read_text.Goals as goal
 use Rattle.std.proofs.Common.{◌≡◌, subst, ◌∙◌}
-use Rattle.mpd_text.specs.Nodes.{root_in}
+use Rattle.mpd_tree.specs.Nodes.{root_in}
 use Rattle.mpd_text.proofs.TreeReading.{finished, stopped}
 
 pub returns-in-Ok-clause-reading : goal.returns-in-Ok-clause-reading

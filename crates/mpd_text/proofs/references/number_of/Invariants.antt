@@ -1,6 +1,6 @@
 use Rattle.mpd_text.proofs.references.number_of.Given as goal
 use Rattle.std.proofs.Common.{◌≡◌, ◌≤◌, drop, fold}
-use Rattle.mpd_text.specs.References.{capped_number, with_digit}
+use Rattle.mpd_tree.specs.References.{capped_number, with_digit}
 
 abbrev pub invariant-loop-digit : goal.invariant-loop-digit
 invariant-loop-digit l = record {

@@ -1,7 +1,8 @@
 use Rattle.mpd_text.proofs.text.add_text.Given as goal
 use Rattle.std.proofs.Common.{◌≡◌, ◌-◌}
 use Rattle.std.specs.String.{string_bytes}
-use Rattle.mpd_text.specs.{Grammar.{part, text}, Productions.times, Rests.IsBehind}
+use Rattle.mpd_text.specs.Rests.{IsBehind}
+use Rattle.mpd_tree.specs.{Grammar.{part, text}, Productions.times}
 
 abbrev pub invariant-loop : goal.invariant-loop
 invariant-loop l = record {

@@ -1,12 +1,9 @@
 use Rattle.presentation.proofs.laws.presentations_mean_what_they_list.Goals as goal
-use Rattle.presentation.proofs.{Meant.made_are_meant, MeantParts.verified_are_meant, Telling.{presented_are_meant, texts_are_meant}}
-use Rattle.presentation.proofs.Whole.{finished_are_whole}
+use Rattle.presentation.proofs.{Meant.made_are_meant, MeantParts.verified_are_meant, Whole.finished_are_whole}
 
 pub returns : goal.returns
 returns c = record {
   made = made_are_meant;
   verified = verified_are_meant;
   finished = finished_are_whole;
-  mpd = presented_are_meant;
-  text = texts_are_meant;
 }

@@ -2,7 +2,8 @@ use Rattle.timeline.proofs.timelines.goes_on.Goals as goal
 use Rattle.std.proofs.Common.{◌≡◌, suc, ◌-◌, ap, ◌∙◌, sym, refl, List, ◌∷◌, length, ℤ, pos, negsuc, rules, arith, []}
 use Rattle.std.proofs.{lemmas.Int.to_z-of_z, lemmas.Bool.le-ltb}
 use Rattle.std.specs.Prelude.{slice_get, Some, int_lt}
-use Rattle.timeline.specs.{declared.entry.SEntry.SEntry, Faults.{ends_open, is_negative}}
+use Rattle.timeline.specs.Faults.{ends_open, is_negative}
+use Rattle.mpd_entries.specs.declared.entry.SEntry.{SEntry}
 use mir.Val.{SFits}
 use mir.Syntax.{w64}
 

@@ -1,6 +1,6 @@
 use Rattle.fragment_times.proofs.lasting.Lasting.all.Given as goal
 use Rattle.std.proofs.Common.{◌≡◌, ◌*◌, All, length}
-use Rattle.presentation.specs.Told.{gathered}
+use Rattle.bridge_io.specs.Answer.{gathered}
 use Rattle.presentation.proofs.Counts.{from_on}
 use Rattle.fragment_times.specs.{Durations.{IsShort, all_ticks, section_ticks}, Times.behind}
 

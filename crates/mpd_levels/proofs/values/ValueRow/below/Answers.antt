@@ -1,7 +1,7 @@
 use Rattle.mpd_levels.proofs.values.ValueRow.below.Goals as goal
 use Rattle.std.proofs.{Common.◌≡◌, lemmas.Result.IfOk-weaker}
 use Rattle.std.specs.{List.cons_option, Prelude.option_map}
-use Rattle.mpd_text.specs.Nodes.{element_of}
+use Rattle.mpd_tree.specs.Nodes.{element_of}
 use Rattle.mpd_levels.specs.{Merged.row_over, Segments.values_in, Shown.Shows}
 use Rattle.mpd_levels.proofs.Showing.{Shows-grows, Shows-over}
 

@@ -2,7 +2,7 @@ use Rattle.mpd_profile.proofs.siblings.Siblings.add.Goals as goal
 use Rattle.std.proofs.Common.{◌≡◌, ◌∙◌, ap, refl, Some, None}
 use Rattle.std.specs.{Prelude.if◌then◌else◌, List.list_any}
 use Rattle.bridge_io.proofs.NameSets.{has, insert_has}
-use Rattle.mpd_text.specs.{Trees.Head, Nodes.element_of}
+use Rattle.mpd_tree.specs.{Trees.Head, Nodes.element_of}
 use Rattle.mpd_profile.specs.Refusals.{has_id, period_id}
 use Rattle.mpd_profile.proofs.Standing.{no_more_ids, one_more, one_more_id, short_behind}
 

@@ -1,6 +1,6 @@
 use Rattle.mpd_profile.proofs.visit.Visit.check_attribute_values.Given as goal
 use Rattle.std.proofs.Common.{◌≡◌, List, Some}
-use Rattle.mpd_text.specs.{Nodes.attributes_left, Trees.Head}
+use Rattle.mpd_tree.specs.{Nodes.attributes_left, Trees.Head}
 use Rattle.std.specs.Prelude.{flat_map}
 use Rattle.bridge_io.specs.Firsts.{first_fault}
 use Rattle.mpd_profile.specs.{Behind.IsBehind, Passes.visit_shown, Refusals.{attribute_told, attributes_told}}

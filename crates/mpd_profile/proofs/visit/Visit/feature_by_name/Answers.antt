@@ -4,7 +4,7 @@ use Rattle.std.proofs.Common.{◌≡◌, Option, Some, Bor, ◌∙◌, ap, List,
 use Rattle.std.specs.Prelude.{option_map}
 use Rattle.mpd_profile.specs.{declared.feature.Feature.Feature, Features.{feature_if, is_second, parent_feature}, Passes.parent_shown}
 use Rattle.mpd_profile.proofs.Untold.{short_untold}
-use Rattle.mpd_text.specs.{Nodes.element_of, Trees.Head}
+use Rattle.mpd_tree.specs.{Nodes.element_of, Trees.Head}
 
 named : (o : Option (Bor parents.Parent)) (parent : Bor parents.Parent) (before : List Head) (said name : List ℕ) (second : Bool)
     (feature : Option Feature)

@@ -1,9 +1,9 @@
+use Rattle.mpd_rules.proofs.build.Building.add_set.Goals as goal
 use Rattle.std.proofs.Common.{◌∷◌, All, map, length, ap, sym, subst, ◌∙◌}
-use Rattle.mpd_text.specs.Nodes.{element_of}
+use Rattle.mpd_tree.specs.Nodes.{element_of}
 use Rattle.mpd_levels.proofs.Showing.{Grows-then}
 use Rattle.mpd_rules.specs.Fits.{FitsTrack}
 use Rattle.mpd_rules.proofs.Building.{on_ok}
-use Rattle.mpd_rules.proofs.build.Building.add_set.Goals as goal
 
 pub add_tracks-requires-clause-fits : goal.add_tracks-requires-clause-fits
 add_tracks-requires-clause-fits g c = subst (All FitsTrack) (sym (ap (map element_of) c.deref.ensures.value

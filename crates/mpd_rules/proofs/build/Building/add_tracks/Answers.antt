@@ -1,6 +1,6 @@
 use Rattle.mpd_rules.proofs.build.Building.add_tracks.Goals as goal
 use Rattle.std.proofs.{Common.◌∙◌, lemmas.Result.err_from_is_err_and}
-use Rattle.mpd_text.specs.Nodes.{element_of}
+use Rattle.mpd_tree.specs.Nodes.{element_of}
 use Rattle.mpd_levels.proofs.Showing.{Grows-then}
 use Rattle.mpd_rules.specs.{Built.track_shown, Fits.FitsTrack}
 use Rattle.mpd_rules.proofs.{Building.{Says-grows, one_pushed}, Refusing.{first_of_more, none_first}, Walking.{all_here, one_left}}

@@ -1,7 +1,7 @@
 use Rattle.mpd_rules.proofs.build.Building.add_tracks.Given as goal
 use Rattle.std.proofs.Common.{◌≡◌, ◌++◌, List, map, drop}
 use Rattle.std.specs.Prelude.{flat_map}
-use Rattle.mpd_text.specs.{Nodes.element_of, Trees.Element}
+use Rattle.mpd_tree.specs.{Nodes.element_of, Trees.Element}
 use Rattle.mpd_levels.specs.{declared.tables.Tables.Tables, Shown.{Grows, Says}}
 use Rattle.mpd_rules.specs.{Built.{refused_in, tracks_shown}, Typed.track_in}
 

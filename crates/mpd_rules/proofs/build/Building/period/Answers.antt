@@ -1,6 +1,6 @@
 use Rattle.mpd_rules.proofs.build.Building.period.Goals as goal
 use Rattle.std.proofs.{Common.{All, [], ◌∷◌, map, ap, sym, subst, refl, ◌∙◌}, lemmas.Result.err_from_is_err_and}
-use Rattle.mpd_text.specs.Nodes.{element_of}
+use Rattle.mpd_tree.specs.Nodes.{element_of}
 use Rattle.mpd_levels.proofs.Showing.{Grows-then}
 use Rattle.mpd_rules.specs.Fits.{FitsSet}
 

@@ -1,7 +1,7 @@
 use Rattle.mpd_rules.proofs.build.Building.periods.Goals as goal
 use Rattle.std.proofs.{Common.{◌+◌, ◌++◌, ◌∷◌, ap, drop, sym, ◌∙◌, arith}, lemmas.List.drop_more, lemmas.List.Sums.sum_by-cons}
 use Rattle.std.proofs.lemmas.Result.{err_from_is_err_and}
-use Rattle.mpd_text.specs.Nodes.{element_of}
+use Rattle.mpd_tree.specs.Nodes.{element_of}
 use Rattle.mpd_levels.proofs.Showing.{Grows-then}
 use Rattle.mpd_rules.specs.{Built.{period_refused, period_shown}, Fits.FitsPeriod, Kept.left_in_period, Rules.second_told}
 use Rattle.mpd_rules.proofs.{Building.one_pushed, Refusing.{IsFirst, first_of_more, none_first, none_told}, Walking.{all_here, one_left}}

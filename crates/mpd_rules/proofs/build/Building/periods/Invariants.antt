@@ -1,7 +1,7 @@
 use Rattle.mpd_rules.proofs.build.Building.periods.Given as goal
 use Rattle.std.proofs.Common.{◌≡◌, ◌+◌, ◌++◌, map, drop, length}
 use Rattle.std.specs.Prelude.{sum_by}
-use Rattle.mpd_text.specs.Nodes.{element_of}
+use Rattle.mpd_tree.specs.Nodes.{element_of}
 use Rattle.mpd_levels.specs.{declared.tables.Tables.Tables, Shown.Grows}
 use Rattle.mpd_rules.specs.{Built.{periods_in, periods_refused, periods_shown}, Kept.left_in_period}
 

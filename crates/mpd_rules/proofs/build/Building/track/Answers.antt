@@ -1,6 +1,6 @@
 use Rattle.mpd_rules.proofs.build.Building.track.Goals as goal
 use Rattle.std.proofs.{Common.{◌∷◌, refl}, lemmas.Result.err_from_is_err_and}
-use Rattle.mpd_text.specs.Nodes.{element_of}
+use Rattle.mpd_tree.specs.Nodes.{element_of}
 use Rattle.mpd_rules.proofs.Building.{Says-grows}
 
 pub told-requires : goal.told-requires

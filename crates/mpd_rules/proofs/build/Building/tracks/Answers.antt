@@ -1,7 +1,7 @@
 use Rattle.mpd_rules.proofs.build.Building.tracks.Goals as goal
 use Rattle.std.proofs.{Common.{◌+◌, ◌++◌, ap, map, drop, sym, ◌∙◌, append_assoc, arith}, lemmas.List.{append-nil, at_drop_all}}
 use Rattle.std.proofs.{lemmas.List.Sums.sum_by-cons, lemmas.Result.err_from_is_err_and}
-use Rattle.mpd_text.specs.Nodes.{element_of}
+use Rattle.mpd_tree.specs.Nodes.{element_of}
 use Rattle.mpd_levels.proofs.Showing.{Grows-then}
 use Rattle.mpd_rules.specs.{Built.{set_tracks, sets_tracks, tracks_shown}, Fits.FitsSet, Kept.left_in_set}
 use Rattle.mpd_rules.proofs.{Building.Says-grows, Refusing.{first_of_more, none_first}, Walking.{all_here, one_left}}

@@ -2,7 +2,8 @@ use Rattle.mpd_text.proofs.kept.Kept.add_attribute.Goals as goal
 use Rattle.std.proofs.{Common.{[], ◌∷◌, ◌≤◌, length, vec_len, refl, sym, arith}, lemmas.List.{append-nil, length-append}}
 use Rattle.std.proofs.lemmas.List.Elements.{All-push}
 use Rattle.std.specs.{List.All, String.string_bytes}
-use Rattle.mpd_text.specs.{Keeping.kept_of, Rows.IsAttributeKept, declared.tree.AttributeRow.AttributeRow}
+use Rattle.mpd_text.specs.Keeping.{kept_of}
+use Rattle.mpd_tree.specs.{Rows.IsAttributeKept, declared.tree.AttributeRow.AttributeRow}
 use Rattle.mpd_text.proofs.KeptRows.{attribute_shown, kept_adds, name_kept, pushed, same_added, within_more}
 
 pub invariant_of-self-clause-attributes_kept : goal.invariant_of-self-clause-attributes_kept

@@ -2,8 +2,8 @@ use Rattle.mpd_text.proofs.kept.Kept.add_element.Goals as goal
 use Rattle.std.proofs.{Common.{◌≡◌, [], ◌∷◌, suc, length, map, vec_len, refl, sym, ap, ◌∙◌, arith}, lemmas.List.{length-map, map-append}}
 use Rattle.std.proofs.lemmas.List.Elements.{All-push}
 use Rattle.std.specs.List.{All}
-use Rattle.mpd_text.specs.{Forests.shown_of, Keeping.{attributes_in, kept_of, shown_in}, Rows.{HasAttributesWithin, IsElementKept}}
-use Rattle.mpd_text.specs.declared.tree.ElementRow.{ElementRow}
+use Rattle.mpd_text.specs.Keeping.{attributes_in, kept_of, shown_in}
+use Rattle.mpd_tree.specs.{Forests.shown_of, Rows.{HasAttributesWithin, IsElementKept}, declared.tree.ElementRow.ElementRow}
 use Rattle.mpd_text.proofs.KeptRows.{changed, head_shown, lengths, name_kept, nothing_kept, size}
 
 pub invariant_of-self-clause-elements_kept : goal.invariant_of-self-clause-elements_kept

@@ -1,9 +1,11 @@
 use Rattle.mpd_text.proofs.kept.Kept.end_element.Goals as goal
-use Rattle.std.proofs.{Common.{◌≡◌, ◌<◌, subst, length, map, vec_len, refl, ap, ◌∙◌, arith}, lemmas.List.{length-map, Elements.All-set}}
+use Rattle.std.proofs.{Common.{◌≡◌, ◌<◌, subst, length, map, vec_len, refl, ap, ◌∙◌, arith}, lemmas.List.length-map}
+use Rattle.std.proofs.lemmas.List.Elements.{All-set}
 use Rattle.std.specs.List.{All}
-use Rattle.mpd_text.specs.{Forests.shown_of, Keeping.{kept_of, shown_in}, Rows.{HasAttributesWithin, IsElementKept}}
-use Rattle.mpd_text.specs.declared.tree.ElementRow.{ElementRow}
-use Rattle.mpd_text.proofs.KeptRows.{all_at, changed, set_shown, size}
+use Rattle.mpd_text.specs.Keeping.{kept_of, shown_in}
+use Rattle.mpd_tree.specs.{Forests.shown_of, Rows.{HasAttributesWithin, IsElementKept}, declared.tree.ElementRow.ElementRow}
+use Rattle.mpd_text.proofs.KeptRows.{changed, set_shown, size}
+use Rattle.mpd_tree.proofs.NodeLemmas.{all_at}
 
 pub invariant_of-self-clause-elements_kept : goal.invariant_of-self-clause-elements_kept
 invariant_of-self-clause-elements_kept c =

@@ -1,7 +1,7 @@
 use Rattle.mpd_text.proofs.kept.Kept.finish.Goals as goal
 use Rattle.std.specs.String.{string_bytes}
 use Rattle.mpd_text.specs.Keeping.{shown_in}
-use Rattle.mpd_text.proofs.ForestLemmas.{has_one_root, root_is}
+use Rattle.mpd_tree.proofs.ForestLemmas.{has_one_root, root_is}
 
 pub returns-clause-root : goal.returns-clause-root
 unfolding shown_in

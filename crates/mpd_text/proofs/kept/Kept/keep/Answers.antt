@@ -1,7 +1,7 @@
 use Rattle.mpd_text.proofs.kept.Kept.keep.Goals as goal
 use Rattle.std.proofs.{Common.{[], ◌++◌, ◌∙◌, length, refl, sym, ap}, lemmas.List.append-nil}
 use Rattle.std.specs.{List.All, String.string_bytes}
-use Rattle.mpd_text.specs.Rows.{IsAttributeKept, IsElementKept}
+use Rattle.mpd_tree.specs.Rows.{IsAttributeKept, IsElementKept}
 use Rattle.mpd_text.proofs.KeptRows.{attributes_grown, elements_grown, kept_adds, nothing_kept, pushed, read_kept, read_shown}
 
 pub invariant_of-self-clause-elements_kept : goal.invariant_of-self-clause-elements_kept

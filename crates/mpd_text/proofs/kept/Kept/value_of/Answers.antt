@@ -1,7 +1,8 @@
 use Rattle.mpd_text.proofs.kept.Kept.value_of.Goals as goal
 use Rattle.std.proofs.Common.{◌≡◌, ◌-◌, length, take, drop, Ok, sym, subst}
 use Rattle.std.specs.String.{string_bytes}
-use Rattle.mpd_text.specs.{Marked.marked_in_value, Runs.plain_at, Grammar.value, Rests.IsEnd}
+use Rattle.mpd_text.specs.Rests.{IsEnd}
+use Rattle.mpd_tree.specs.{Marked.marked_in_value, Runs.plain_at, Grammar.value}
 use Rattle.mpd_text.proofs.{KeptRows.{cut_kept, cut_shown}, Rests.{ends, ends_drop}, TextLoop.{marked_ascii, plain_parts}}
 use Rattle.mpd_text.proofs.Values.{first_behind, value_first}
 

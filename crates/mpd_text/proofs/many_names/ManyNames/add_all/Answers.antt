@@ -1,6 +1,7 @@
 use Rattle.mpd_text.proofs.many_names.ManyNames.add_all.Goals as goal
 use Rattle.std.proofs.{Common.{◌≡◌, ◌+◌, ◌<◌, ℕ, List, [], ◌∷◌, ◌++◌, arith, get_or, length, take}, lemmas.List.{map-append, take_more}}
-use Rattle.mpd_text.specs.{declared.tree.AttributeRow.AttributeRow, Names.{name_in, names_in}}
+use Rattle.mpd_text.specs.Names.{name_in, names_in}
+use Rattle.mpd_tree.specs.declared.tree.AttributeRow.{AttributeRow}
 
 -- the names of one row more
 names_more : (bytes : List ℕ) (rows : List AttributeRow) (i : ℕ) (d : AttributeRow) (last : List ℕ) → i < length rows

@@ -1,0 +1,68 @@
+#!/usr/bin/env bash
+# outside.sh: tries the built program on the real system as no table does: standard streams that are closed, inputs that are replaced
+# by rename while they are read, outputs that are no files, a folder that vanishes under `follow`, and a program's name that is no text.
+# BRIDGE names the program; otherwise crates/bridge/out/bridge. It ends with 0 where all is as docs/DECISIONS.md says.
+set -u
+here=$(cd "$(dirname "$0")/.." && pwd)
+bridge=${BRIDGE:-$here/crates/bridge/out/bridge}
+work=$(mktemp -d)
+trap 'rm -rf "$work"' EXIT
+cp "$here/crates/bridge/data/vod.mpd" "$work/"
+cd "$work" || exit 1
+failed=0
+is() { if [ "$2" = "$3" ]; then echo "ok   $1"; else echo "BAD  $1: $2, wanted $3"; failed=1; fi; }
+lines() { grep -c -E '^(done|mpd|frame|refused) ' "$@" 2>/dev/null | awk -F: '{ n += $NF } END { print n + 0 }'; }
+
+# The report never goes into a file, whichever of the streams are closed.
+"$bridge" hls vod.mpd --base=https://h.example/ --out=a >&-; is 'closed output, status' $? 4
+is 'closed output, files' "$(lines a/*)" 0
+"$bridge" hls vod.mpd --base=https://h.example/ --out=b <&- >&- 2>&-; is 'all closed, status' $? 4
+is 'all closed, files' "$(lines b/*)" 0
+"$bridge" hls vod.mpd --base=https://h.example/ --out=c <&- > c.txt; is 'closed input, status' $? 0
+is 'closed input, report' "$(lines c.txt)" 1
+"$bridge" hls vod.mpd --base=https://h.example/ --out=d > d.txt 2>&-; is 'closed errors, status' $? 0
+cmp -s c/master.m3u8 d/master.m3u8; is 'the same files' $? 0
+"$bridge" hls vod.mpd --base=https://h.example/ --out=e > /dev/full; is 'full output, status' $? 4
+
+# An input that is replaced is read whole as one of both.
+python3 - "$bridge" <<'PY' || failed=1
+import os, subprocess, sys, threading
+bridge = sys.argv[1]
+def version(d):
+    rows = f'<S d="{d}"/>\n' * 60_000
+    return ('<?xml version="1.0"?>\n<MPD xmlns="urn:mpeg:dash:schema:mpd:2011" mediaPresentationDuration="PT2500S"><Period><AdaptationSet mimeType="video/mp4">'
+            '<Representation id="v" bandwidth="1000"><SegmentTemplate timescale="48000" initialization="i.mp4" media="s$Number$.m4s">'
+            f"<SegmentTimeline>{rows}</SegmentTimeline></SegmentTemplate></Representation></AdaptationSet></Period></MPD>\n")
+versions = [version(1000), version(2000)]
+for i, text in enumerate(versions): open(f"v{i}.mpd", "w").write(text)
+def told(name): return subprocess.run([bridge, "show", name, "--base=https://h.example/"], capture_output=True).stdout
+wanted = {told("v0.mpd"), told("v1.mpd")}
+stop = False
+def replace():
+    k = 0
+    while not stop:
+        k += 1
+        open("next", "w").write(versions[k % 2]); os.rename("next", "m.mpd")
+open("m.mpd", "w").write(versions[0])
+thread = threading.Thread(target=replace); thread.start()
+bad = sum(told("m.mpd") not in wanted for _ in range(100))
+stop = True; thread.join()
+print("ok   replaced inputs" if not bad else f"BAD  replaced inputs: {bad} of 100 are of neither version")
+sys.exit(bad > 0)
+PY
+
+# What is no file isn't written to.
+mkdir f; mkfifo f/t0.m3u8
+timeout 10 "$bridge" hls vod.mpd --base=https://h.example/ --out=f > f.txt; is 'a pipe for a playlist, status' $? 4
+mkdir g; ln -s /dev/full g/t0.m3u8
+timeout 10 "$bridge" hls vod.mpd --base=https://h.example/ --out=g > g.txt; is 'a device for a playlist, status' $? 4
+
+# A name of the program that is no text is none of the words.
+python3 - "$bridge" <<'PY' || failed=1
+import os, subprocess, sys
+got = subprocess.run([b"\xff\xfe", "show", "vod.mpd", "--base=https://h.example/"], executable=sys.argv[1], capture_output=True)
+good = got.returncode == 0 and got.stdout.startswith(b"mpd ")
+print("ok   a name that is no text" if good else f"BAD  a name that is no text: {got.returncode} {got.stdout[:60]}")
+sys.exit(not good)
+PY
+exit $failed

@@ -1,0 +1,20 @@
+// Faults of the operating system.
+ghost use Rattle.std.specs.Prelude.{◌≡◌, ◌≤◌};
+ghost use Rattle.bridge_io.specs.declared.outside.Fail.TheVariants.{Failed};
+ghost use Rattle.bridge_io.specs.Fault.{Rose};
+
+use bridge_io::Fail;
+use std::io;
+use std::io::ErrorKind;
+
+/// What an error comes to. Each one but want of memory is counted.
+pub fn counted(faults: &mut u64, error: io::Error) -> Fail
+    ensures never_falls { faults.old ≤ faults.new }
+    ensures rose { result ≡ Failed → Rose faults.old faults.new }
+{
+    if error.kind() == ErrorKind::OutOfMemory {
+        return Fail::Memory;
+    }
+    *faults = faults.saturating_add(1);
+    Fail::Failed
+}

@@ -1,4 +1,0 @@
-use Rattle.bridge_io.proofs.mem_store.MemStore.put.Goals as goal
-
-pub returns-clause-ok : goal.returns-clause-ok
-returns-clause-ok c = rw (← c.as_str.ensures.text) c.set.ensures.ok

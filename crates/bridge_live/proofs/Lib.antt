@@ -1,0 +1,3 @@
+pub mod LiveFiles
+pub mod LiveFrames
+pub mod LiveStates

@@ -1,0 +1,117 @@
+-- A followed MPD: what its frames are, why one is refused, and what is written of what the accepted ones leave.
+use Rattle.bridge_jobs.specs.declared.frame.Frame.TheVariants as frame
+use Rattle.live_meaning.specs.Refusals as rules
+use Rattle.bridge_report.specs.declared.refusal.Refusal.TheVariants as refusal
+use Rattle.bridge_report.specs.declared.update_fault.UpdateFault.TheVariants as update
+use Rattle.std.specs.Prelude.{◌≡◌, ℕ, ◌+◌, ◌≤◌, ◌==◌, List, [], ◌∷◌, ◌++◌, map, length, codes, if◌then◌else◌, Option, Some, None}
+use Rattle.std.specs.{Prelude.{option_map, Result, Ok, Err}, List.range_with_len, Option.option_map_or, Result.{result_ok, result_err}}
+use Rattle.bridge_io.specs.Answer.{and_then, told_as}
+use Rattle.bridge_jobs.specs.{Frames.frames_from, Laws.{in_folder, playlist_of}, declared.frame.Frame.Frame}
+use Rattle.bridge_jobs.specs.declared.frame.FramePos.{FramePos}
+use Rattle.hls_writer.specs.Master.{master_text}
+use Rattle.live_meaning.specs.{Updates.{Update, Refresh, Reset, Tick, Terms}, States.State}
+use Rattle.live_judge.specs.{Faults.told, declared.fault.RefreshFault.RefreshFault}
+use Rattle.live_session.specs.{declared.session.Appended.Appended, Sessions.text_of}
+use Rattle.bridge_report.specs.{Following.Followed, Refusals.{refusal_text, refused_in}, declared.refusal.Refusal.Refusal}
+use Rattle.bridge_report.specs.declared.refusal.Stop.{Stop}
+use Rattle.bridge_steps.specs.{Manifests.values_of, Streams.Stream}
+
+-- ---- why a frame is refused
+
+-- a rule that an update breaks, as the report tells it
+abbrev pub told_of : rules.Refusal → Refusal
+told_of (rules.ClockBack former now) = refusal.Session update.ClockBack
+told_of (rules.Older former new) = refusal.Session update.Older
+told_of rules.Changed = refusal.Session update.Changed
+told_of (rules.Moved place) = refusal.Session update.Moved
+told_of (rules.Rewritten track kept new) = refusal.Session update.Rewritten
+told_of (rules.Step track end start) = refusal.Session update.Step
+told_of (rules.LongSegment target printed) = refusal.Session update.LongSegment
+told_of rules.NotDynamic = refusal.Session update.NotDynamic
+told_of rules.Ended = refusal.Session update.Ended
+told_of (rules.Window track count) = refusal.Session update.Window
+told_of (rules.Presentation fault) = refusal.Presentation fault
+told_of (rules.Uneven track first last) = refusal.Session update.Uneven
+told_of rules.NotOpen = refusal.NotOpen
+
+-- ---- what frames leave
+
+-- the update that a frame is, where its bytes are an MPD's
+unfoldable pub update_of : Frame → Result Update Refusal
+update_of (frame.Mpd now body) = and_then (values_of body) (λ mpd. Ok (Refresh mpd now))
+update_of (frame.Reset now body) = and_then (values_of body) (λ mpd. Ok (Reset mpd now))
+update_of (frame.Tick now) = Ok (Tick now)
+
+-- the state that a first frame leaves, which is an MPD, or its first refusal
+unfoldable pub first_state : Terms → Frame → Result State Refusal
+first_state terms (frame.Mpd now body) = and_then (values_of body) (λ mpd. told_as told_of (rules.begun_of terms mpd now))
+first_state terms (frame.Reset now body) = Err refusal.NotOpen
+first_state terms (frame.Tick now) = Err refusal.NotOpen
+
+-- the state that a frame leaves behind others, or its first refusal
+unfoldable pub next_state : State → Frame → Result State Refusal
+next_state s x = and_then (update_of x) (λ u. told_as told_of (rules.next_of s u))
+
+abbrev pub frame_state : Terms → Option State → Frame → Result State Refusal
+frame_state terms None x = first_state terms x
+frame_state terms (Some s) x = next_state s x
+
+-- ---- how many segments frames append
+
+-- none at a refusal, but for that of a segment's address: then as many as it was to append
+unfoldable pub first_appends : Terms → Frame → ℕ
+first_appends terms (frame.Mpd now body) = option_map_or (λ mpd. rules.first_appended_by terms mpd now) (result_ok (values_of body)) 0
+first_appends terms (frame.Reset now body) = 0
+first_appends terms (frame.Tick now) = 0
+
+unfoldable pub next_appends : State → Frame → ℕ
+next_appends s x = option_map_or (rules.appended_by s) (result_ok (update_of x)) 0
+
+abbrev pub frame_appends : Terms → Option State → Frame → ℕ
+frame_appends terms None x = first_appends terms x
+frame_appends terms (Some s) x = next_appends s x
+
+-- so many segments are made, or at most so many where the answer is an error
+abbrev pub AreMade : {X E : Type 0} → (n before after : ℕ) → Result X E → Type 0
+AreMade n before after (Ok x) = after ≡ before + n
+AreMade n before after (Err e) = (before ≤ after) × (after ≤ before + n)
+
+-- what a session answered, in the report's terms
+abbrev pub IsTaken : Result Appended RefreshFault → Result ℕ Stop → Type 0
+IsTaken (Ok appended) (Ok n) = n ≡ appended.0
+IsTaken (Err fault) (Err stop) = refused_in stop ≡ option_map told_of (told fault)
+IsTaken answer result = ⊥
+
+-- how many frames were accepted
+abbrev pub accepted_of : Option State → ℕ
+accepted_of s = option_map_or (λ s. s.common.accepted) s 0
+
+-- ---- files
+
+abbrev pub track_file : (out : List ℕ) → State → (track : ℕ) → List ℕ × List ℕ
+track_file out s t = (in_folder out (playlist_of t), text_of s t)
+
+abbrev pub track_files : (out : List ℕ) → State → List (List ℕ × List ℕ)
+track_files out s = map (track_file out s) (range_with_len 0 (length s.tracks))
+
+abbrev pub master_file : (out : List ℕ) → State → List ℕ × List ℕ
+master_file out s = (in_folder out (codes "master.m3u8"), master_text s.common.opened)
+
+-- the playlists of the tracks in order, and behind the first accepted frame the master last, which is that of the first MPD
+abbrev pub live_files : (out : List ℕ) → State → List (List ℕ × List ℕ)
+live_files out s = track_files out s ++ (if s.common.accepted == 1 then master_file out s ∷ [] else [])
+
+-- ---- what is followed
+
+abbrev pub followed_mpd : Terms → (out : List ℕ) → Followed (Option State) Frame
+followed_mpd terms out = record {
+  refusal = λ s x. option_map refusal_text (result_err (frame_state terms s x));
+  after = λ s x. result_ok (frame_state terms s x);
+  files = λ s. option_map_or (live_files out) s [];
+  appended = frame_appends terms;
+  makes = frame_appends terms;
+}
+
+-- the frames of a stream of bytes
+abbrev pub frame_stream : FramePos → List ℕ → Stream Frame
+frame_stream at bytes = let stream = frames_from at bytes in (stream.frames, stream.fault)

@@ -1,0 +1,82 @@
+// A followed MPD.
+ghost use Rattle.iso_time.specs.Instant.{IsReadable};
+ghost use Rattle.bridge_jobs.specs.Frames.{now_of};
+ghost use Rattle.bridge_live.specs.LiveMpds as spec;
+
+use crate::live_files::write_live_files;
+use crate::live_frame::{first_frame, next_frame};
+use bridge_io::{Ledger, Name, Source, Steps, Store};
+use bridge_jobs::laws::frames_follow;
+use bridge_jobs::{Frame, FrameFault, FramePos, read_frame};
+use bridge_report::Stop;
+use bridge_steps::{Follow, count_of};
+use exact_time::Digits;
+use hls_writer::OutFault;
+use live_session::Session;
+use std::alloc::Global;
+use url_parts::Base;
+
+/// An MPD that is followed, by frames of it and of time.
+#[derive(Drop)]
+pub struct LiveMpd {
+    /// The MPD's own URL.
+    pub url: Base,
+    /// The folder of the playlists.
+    pub out: Name,
+    /// The decimals of printed durations.
+    pub digits: Digits,
+}
+
+impl Follow for LiveMpd {
+    type Frame = Frame;
+
+    type Live = Option<Session>;
+
+    ghost told = { λ mpd. spec.followed_mpd (record { url = mpd.url; digits = mpd.digits }) mpd.out };
+
+    ghost accepted = { λ mpd live. spec.accepted_of live };
+
+    ghost stream = { λ mpd. spec.frame_stream };
+
+    ghost is_read = { λ mpd frame. IsReadable (now_of frame) };
+
+    fn next<I: Source>(
+        &self,
+        alloc: Global,
+        input: &mut I,
+        at: &mut FramePos,
+    ) -> Result<Option<Frame>, FrameFault> {
+        frames_follow();
+        read_frame(alloc, input, at)
+    }
+
+    fn accept<L: Ledger>(
+        &self,
+        alloc: Global,
+        live: &mut Option<Session>,
+        frame: &Frame,
+        steps: &mut Steps<L>,
+    ) -> Result<u64, Stop> {
+        match live {
+            Some(session) => next_frame(alloc, session, frame, steps),
+            None => {
+                let session = first_frame(alloc, &self.url, self.digits, frame, steps)?;
+                let listed = count_of(session.first());
+                *live = Some(session);
+                Ok(listed)
+            }
+        }
+    }
+
+    fn publish<F: Store>(
+        &self,
+        alloc: Global,
+        live: &Option<Session>,
+        store: &mut F,
+    ) -> Result<(), OutFault> {
+        match live {
+            Some(session) => write_live_files(alloc, &self.out, session, store),
+            None => Ok(()),
+        }
+    }
+}

@@ -1,0 +1,9 @@
+pub mod Listable
+pub mod MeaningLaws
+pub mod Meanings
+pub mod Origins
+pub mod PresentedLaws
+pub mod Rows
+pub mod Scales
+pub mod Shared
+pub mod Told

@@ -1,0 +1,246 @@
+// The presentation of an MPD.
+ghost use Rattle.std.specs.Prelude.{◌≡◌, ◌++◌, ◌*◌, [], false, All, IfOk, List, OnOk, is_some, length, map, option_map, None};
+ghost use Rattle.bridge_io.specs.Answer.{Gives, gathered};
+ghost use Rattle.mpd_rules.specs.Views.{period_in, periods_left, segments_mpd, track_in, tracks_left};
+ghost use Rattle.presentation.specs.Counting.{refusal};
+ghost use Rattle.presentation.specs.Presented.{following_of as kept_following, IsEnded};
+ghost use Rattle.mpd_presentation.specs.Rows.{all_left, first_rows, in_order, period_of, row_of, rows_left, section_of};
+ghost use Rattle.mpd_presentation.specs.Shared.{AreOf, AreOfAll};
+ghost use Rattle.mpd_presentation.specs.Told as spec;
+
+use crate::checks::check;
+use crate::described::{length_of, sections_of, tracks_of};
+use crate::lineup::rows_in_order;
+use crate::shared::Shared;
+use crate::told::{PeriodContent, Setting};
+use bridge_io::{Kind, NoMemory, Place};
+use iso_time::Instant;
+use mpd_rules::{Mpd, PeriodView, PeriodWalk, RepView, RepWalk, SegmentRow};
+use presentation::{ContentList, Following, Parts, Presentation, PresentationFault};
+use std::alloc::Global;
+use timeline::{End, closed_ends};
+use url_parts::Base;
+
+/// The presentation of an MPD, which is followed where it is dynamic. `base` is the MPD's own URL.
+///
+/// The faults are tried in this order: NeedsNow where the MPD is dynamic and there is no instant; Limit where there
+/// are more than 1,000 Periods, or more than 200 Representations in the first one; PeriodsDiffer at the first Period
+/// that hasn't the kinds and languages of the first one, video before audio before text; then, by Representation in
+/// document order and at its place, Template of `media` and of `initialization`, Url of the BaseURLs and of the
+/// initialization part, and Timeline.
+pub fn from_mpd(
+    alloc: Global,
+    mpd: &Mpd,
+    base: &Base,
+    now: Option<Instant>,
+) -> Result<Presentation, PresentationFault>
+    ensures { Gives (λ presentation. presentation) refusal result (spec.presented_of (segments_mpd mpd.now) base.now now) }
+{
+    match check(alloc, mpd, now.is_some()) {
+        Ok(()) => present_checked(alloc, mpd, base, now),
+        Err(fault) => Err(fault),
+    }
+}
+
+/// The presentation of an MPD of which nothing is refused before its Representations.
+fn present_checked(
+    alloc: Global,
+    mpd: &Mpd,
+    base: &Base,
+    now: Option<Instant>,
+) -> Result<Presentation, PresentationFault>
+    requires { spec.told_before (segments_mpd mpd.now).facts.live (is_some now) (segments_mpd mpd.now).periods ≡ [] }
+    ensures { Gives (λ presentation. presentation) refusal result (spec.presented_if_told (segments_mpd mpd.now) base.now now) }
+{
+    closed_ends();
+    let shared = Shared::of(alloc, mpd.tables())?;
+    let setting = Setting {
+        shared: &shared,
+        base,
+        live: mpd.live(),
+    };
+    match setting.all_told(alloc, mpd.periods()) {
+        Ok(tolds) => Ok(present(alloc, mpd, now, tolds)?),
+        Err(fault) => Err(fault),
+    }
+}
+
+/// The presentation of what Representations have.
+fn present(
+    alloc: Global,
+    mpd: &Mpd,
+    now: Option<Instant>,
+    tolds: Vec<PeriodContent>,
+) -> Result<Presentation, NoMemory>
+    requires filled { length tolds.items ≡ length mpd.now.values.periods * length (first_rows (segments_mpd mpd.now).periods) }
+    requires ended { mpd.now.values.facts.live ≡ false → All IsEnded (map (λ told. told.content) tolds.items) }
+    ensures { IfOk result (λ presentation. presentation ≡ spec.presented_with (segments_mpd mpd.now) now tolds.items) }
+{
+    let rows = first_in_order(alloc, mpd.periods())?;
+    let tracks = tracks_of(alloc, &rows)?;
+    let sections = sections_of(alloc, mpd.periods())?;
+    let parted = part_all(alloc, tolds)?;
+    let parts = Parts {
+        tracks,
+        sections,
+        contents: parted.contents,
+        left_out: mpd.left_out(),
+    };
+    Presentation::from_placed(alloc, parts, following_of(mpd, now), parted.places)
+}
+
+/// When a dynamic MPD is looked at.
+fn following_of(mpd: &Mpd, now: Option<Instant>) -> Option<Following>
+    ensures { option_map kept_following result ≡ spec.following_of mpd.now.values.facts now }
+{
+    if !mpd.live() {
+        return None;
+    }
+    Some(Following {
+        instant: now.unwrap_or(Instant(0)),
+        availability_start: mpd.availability_start().unwrap_or(Instant(0)),
+        depth: mpd.depth(),
+    })
+}
+
+fn first_in_order<'a>(
+    alloc: Global,
+    mut periods: PeriodWalk<'a, SegmentRow>,
+) -> Result<Vec<RepView<'a>>, NoMemory>
+    ensures { IfOk result (λ rows. map row_of rows.items ≡ in_order (first_rows (all_left periods.entry))) }
+{
+    match periods.next() {
+        Some(first) => rows_in_order(alloc, &first),
+        None => Ok(Vec::new(alloc)),
+    }
+}
+
+/// What Representations have, and where they stand.
+#[derive(Drop)]
+struct Parted {
+    contents: ContentList,
+    places: Vec<Place>,
+}
+
+fn part_all(alloc: Global, tolds: Vec<PeriodContent>) -> Result<Parted, NoMemory>
+    ensures contents { IfOk result (λ parted. parted.contents ≡ map (λ told. told.content) tolds.items) }
+    ensures places { IfOk result (λ parted. parted.places.items ≡ map (λ told. told.place) tolds.items) }
+{
+    let mut contents = ContentList::new(alloc);
+    let mut places = Vec::new(alloc);
+    for told in tolds {
+        contents.push(told.content)?;
+        places.push(told.place)?;
+    }
+    Ok(Parted { contents, places })
+}
+
+impl Setting<'_> {
+    /// What the Representations of all Periods have, by Period and in the order of the tracks.
+    fn all_told(
+        &self,
+        alloc: Global,
+        periods: PeriodWalk<'_, SegmentRow>,
+    ) -> Result<Vec<PeriodContent>, PresentationFault>
+        requires { AreOfAll self.now.shared.now (periods_left periods) }
+        ensures { Gives (λ tolds. tolds.items) refusal result (spec.all_told self.now.base.now self.now.live (all_left periods.entry)) }
+    {
+        let mut tolds = Vec::new(alloc);
+        for period in periods {
+            match self.period_told(alloc, &period) {
+                Ok(told) => told.add_to(&mut tolds)?,
+                Err(fault) => return Err(fault),
+            }
+        }
+        Ok(tolds)
+    }
+
+    fn period_told(
+        &self,
+        alloc: Global,
+        period: &PeriodView<'_>,
+    ) -> Result<ByKind, PresentationFault>
+        requires { AreOf self.now.shared.now (period_in period.now).tracks }
+        ensures { Gives (λ told. told.video.items ++ (told.audio.items ++ told.text.items)) refusal result
+            (spec.period_told self.now.base.now self.now.live (period_of period.now)) }
+    {
+        let tolds = self.rows_told(alloc, period.tracks(), &end_of(period))?;
+        Ok(by_kind(alloc, tolds)?)
+    }
+
+    /// What Representations of a Period have, in document order.
+    fn rows_told(
+        &self,
+        alloc: Global,
+        rows: RepWalk<'_, SegmentRow>,
+        end: &End,
+    ) -> Result<Vec<PeriodContent>, PresentationFault>
+        requires { AreOf self.now.shared.now (tracks_left rows) }
+        ensures { Gives (λ tolds. tolds.items) refusal result
+            (gathered (spec.one_told self.now.base.now self.now.live end.now) (rows_left rows.entry)) }
+    {
+        let mut tolds = Vec::new(alloc);
+        let mut former = self.base.copy(alloc)?;
+        for row in rows {
+            match self.told(alloc, &row, end, &mut former) {
+                Ok(told) => tolds.push(told)?,
+                Err(fault) => return Err(fault),
+            }
+        }
+        Ok(tolds)
+    }
+}
+
+/// What Representations of a Period have, by their kinds.
+#[derive(Drop)]
+struct ByKind {
+    video: Vec<PeriodContent>,
+    audio: Vec<PeriodContent>,
+    text: Vec<PeriodContent>,
+}
+
+impl ByKind {
+    /// Adds them behind others in the order of the tracks.
+    fn add_to(self, tolds: &mut Vec<PeriodContent>) -> Result<(), NoMemory>
+        ensures { OnOk result (tolds.new.items ≡ tolds.old.items ++ (self.video.items ++ (self.audio.items ++ self.text.items))) }
+    {
+        add_all(tolds, self.video)?;
+        add_all(tolds, self.audio)?;
+        add_all(tolds, self.text)
+    }
+}
+
+fn by_kind(alloc: Global, tolds: Vec<PeriodContent>) -> Result<ByKind, NoMemory>
+    ensures { IfOk result (λ told. told.video.items ++ (told.audio.items ++ told.text.items) ≡ spec.told_in_order tolds.items) }
+{
+    let mut video = Vec::new(alloc);
+    let mut audio = Vec::new(alloc);
+    let mut text = Vec::new(alloc);
+    for told in tolds {
+        match told.kind {
+            Kind::Video => video.push(told)?,
+            Kind::Audio => audio.push(told)?,
+            Kind::Text => text.push(told)?,
+        }
+    }
+    Ok(ByKind { video, audio, text })
+}
+
+fn add_all(tolds: &mut Vec<PeriodContent>, more: Vec<PeriodContent>) -> Result<(), NoMemory>
+    ensures { OnOk result (tolds.new.items ≡ tolds.old.items ++ more.items) }
+{
+    for told in more {
+        tolds.push(told)?;
+    }
+    Ok(())
+}
+
+/// How long a Period lasts.
+fn end_of(period: &PeriodView<'_>) -> End
+    ensures { result ≡ spec.end_of (period_of period.now) }
+{
+    match length_of(period) {
+        Some(length) => End::At(length),
+        None => End::Unbounded,
+    }
+}

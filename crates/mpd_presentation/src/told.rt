@@ -1,0 +1,340 @@
+// What Representations have in their Periods.
+ghost use Rattle.std.specs.Prelude.{◌≡◌, [], IfOk, option_map, unwrap_or};
+ghost use Rattle.bridge_io.specs.Answer.{Gives, told_as};
+ghost use Rattle.url_parts.specs.Addresses.{chain, resolve};
+ghost use Rattle.timeline.specs.Names.{referred};
+ghost use Rattle.timeline.specs.Expansions.{is_open};
+ghost use Rattle.mpd_levels.specs.Shown.{addressed, timelines_in};
+ghost use Rattle.mpd_rules.specs.Views.{bases_left, track_in, tracks_left, tables_of, period_in};
+ghost use Rattle.presentation.specs.Counting.{refusal};
+ghost use Rattle.template_ids.specs.Templates.{refusal as template_refusal};
+ghost use Rattle.url_parts.specs.Addresses.{refusal as url_refusal};
+ghost use Rattle.timeline.specs.Faults.{refusal as time_refusal};
+ghost use Rattle.mpd_presentation.specs.Rows.{row_of, rows_left, period_of};
+ghost use Rattle.mpd_presentation.specs.Scales.{scale_of};
+ghost use Rattle.mpd_presentation.specs.Shared.{IsShared};
+ghost use Rattle.mpd_presentation.specs.Told as spec;
+
+use crate::shared::Shared;
+use bridge_io::{Kind, NoMemory, Place, Text};
+use mpd_rules::{Addressing, BaseWalk, PeriodView, RepView};
+use presentation::{Content, PresentationFault, Spot};
+use std::alloc::Global;
+use template_ids::{Ids, Template, TemplateFault};
+use timeline::{End, Names, RefList, Runs, Scale, SharedNames, TimeFault};
+use url_parts::{Address, Base, Part, UrlFault};
+
+/// What a Representation has in its Period.
+#[derive(Drop)]
+pub(crate) struct PeriodContent {
+    pub(crate) kind: Kind,
+    pub(crate) content: Content,
+    /// Where the Representation stands.
+    pub(crate) place: Place,
+}
+
+/// Where Representations are told: the MPD's address, what they share, and whether the MPD is dynamic.
+#[derive(Clone, Copy)]
+pub(crate) struct Setting<'a> {
+    pub(crate) shared: &'a Shared,
+    pub(crate) base: &'a Base,
+    pub(crate) live: bool,
+}
+
+impl Setting<'_> {
+    /// What a Representation has in its Period, which lasts so long. Where its base is the former one's, that is kept once.
+    pub(crate) fn told(
+        &self,
+        alloc: Global,
+        row: &RepView<'_>,
+        end: &End,
+        former: &mut Base,
+    ) -> Result<PeriodContent, PresentationFault>
+        requires { IsShared (track_in row.now).segments.tables self.now.shared.now }
+        ensures { Gives (λ told. told) refusal result (spec.told_of self.now.base.now self.now.live end.now (row_of row.now)) }
+    {
+        let content = self.content(alloc, row, &row.addressing(), *end, former)?;
+        Ok(PeriodContent {
+            kind: row.kind(),
+            content,
+            place: row.place(),
+        })
+    }
+
+    #[tactic(auto, unfolding(crate::specs::Told::content_of))]
+    fn content(
+        &self,
+        alloc: Global,
+        row: &RepView<'_>,
+        told: &Addressing<'_>,
+        end: End,
+        former: &mut Base,
+    ) -> Result<Content, PresentationFault>
+        requires { IsShared (tables_of told.now) self.now.shared.now }
+        ensures { Gives (λ content. content) refusal result
+            (spec.content_of self.now.base.now self.now.live end (row_of row.now).description (addressed told.now)) }
+    {
+        let place = row.place();
+        let media = media_of(alloc, told, place)?;
+        let template = init_of(alloc, told, place)?;
+        let base = base_of(alloc, self.base, row, former)?;
+        let initialization = initialization_of(alloc, row, told, &template, &base)?;
+        let names = names_of(alloc, row, told, media, base)?;
+        let runs = self.runs_of(alloc, told, end, names, place)?;
+        Ok(Content {
+            initialization,
+            runs,
+        })
+    }
+
+    /// The segments of a Representation.
+    fn runs_of(
+        &self,
+        alloc: Global,
+        told: &Addressing<'_>,
+        end: End,
+        names: Names,
+        place: Place,
+    ) -> Result<Runs, PresentationFault>
+        requires { IsShared (tables_of told.now) self.now.shared.now }
+        ensures { Gives (λ runs. runs) refusal result
+            (told_as (spec.at_times place) (spec.timeline_by (addressed told.now).timeline
+            (addressed told.now) self.now.live end names)) }
+    {
+        match self.timeline_by(alloc, told, end, names) {
+            Ok(runs) => Ok(runs),
+            Err(fault) => Err(at_times(fault, place)),
+        }
+    }
+
+    fn timeline_by(
+        &self,
+        alloc: Global,
+        told: &Addressing<'_>,
+        end: End,
+        names: Names,
+    ) -> Result<Runs, TimeFault>
+        requires { IsShared (tables_of told.now) self.now.shared.now }
+        ensures { Gives (λ runs. runs) time_refusal result (spec.timeline_by (addressed told.now).timeline
+            (addressed told.now) self.now.live end names) }
+    {
+        let scale = scale_of(told);
+        match self.shared.timeline(told.timeline_key()) {
+            Some(timeline) => Runs::from_shared(alloc, timeline, end, self.live, scale, names),
+            None => {
+                let duration = told.duration().unwrap_or(0);
+                Runs::from_duration(alloc, duration, end, self.live, scale, names)
+            }
+        }
+    }
+}
+
+/// The names of a Representation's segments.
+fn names_of(
+    alloc: Global,
+    row: &RepView<'_>,
+    told: &Addressing<'_>,
+    media: Template,
+    base: Base,
+) -> Result<Names, NoMemory>
+    ensures { IfOk result (λ names. names ≡ spec.names_of (row_of row.now).description (addressed told.now) media base) }
+{
+    if told.is_list() {
+        return Ok(Names::of_shared(list_of(alloc, told)?, base));
+    }
+    let id = Text::copy_of(alloc, row.id())?;
+    Ok(Names::of_template(media, id, row.bandwidth(), base))
+}
+
+/// The SegmentURLs of a list.
+fn list_of(alloc: Global, told: &Addressing<'_>) -> Result<SharedNames, NoMemory>
+    ensures { IfOk result (λ names. names ≡ unwrap_or (addressed told.now).urls []) }
+{
+    match told.urls() {
+        Some(names) => names.share(),
+        None => SharedNames::of(alloc, RefList::new(alloc)),
+    }
+}
+
+/// How the media times of a Representation are counted, and its segments numbered.
+fn scale_of(told: &Addressing<'_>) -> Scale
+    ensures { result ≡ scale_of (addressed told.now) }
+{
+    let ticks = told.timescale().max(1);
+    let start_number = told.start_number().min(LAST_NUMBER);
+    Scale {
+        ticks,
+        offset: told.time_offset(),
+        start_number,
+    }
+}
+
+/// The last number below 2^63.
+const LAST_NUMBER: u64 = (1 << 63) - 1;
+
+/// The template of the segments' addresses.
+fn media_of(
+    alloc: Global,
+    told: &Addressing<'_>,
+    place: Place,
+) -> Result<Template, PresentationFault>
+    ensures { Gives (λ template. template) refusal result (spec.media_of place (addressed told.now)) }
+{
+    match Template::read(alloc, told.media().unwrap_or("")) {
+        Ok(template) => Ok(template),
+        Err(fault) => Err(at_template(fault, place)),
+    }
+}
+
+/// The template of the initialization part's address, where the attribute tells it.
+fn init_of(
+    alloc: Global,
+    told: &Addressing<'_>,
+    place: Place,
+) -> Result<Option<Template>, PresentationFault>
+    ensures { Gives (λ template. template) refusal result (spec.init_of place (addressed told.now)) }
+{
+    let Some(text) = told.init_template() else {
+        return Ok(None);
+    };
+    match init_template(alloc, text) {
+        Ok(template) => Ok(Some(template)),
+        Err(fault) => Err(at_template(fault, place)),
+    }
+}
+
+fn init_template(alloc: Global, text: &str) -> Result<Template, TemplateFault>
+    ensures { Gives (λ template. template) template_refusal result (spec.init_template_of text.now) }
+{
+    let template = Template::read(alloc, text)?;
+    if template.uses_number() || template.uses_time() {
+        return Err(TemplateFault::Unknown);
+    }
+    Ok(template)
+}
+
+/// What the BaseURLs of a Representation give.
+fn base_of(
+    alloc: Global,
+    url: &Base,
+    row: &RepView<'_>,
+    former: &mut Base,
+) -> Result<Base, PresentationFault>
+    ensures { Gives (λ base. base) refusal result (spec.base_of url.now (row_of row.now).description) }
+{
+    match deepest(alloc, url, row.base_references()) {
+        Ok(base) => Ok(kept_once(alloc, base, former)?),
+        Err(fault) => Err(at_url(fault, row.place())),
+    }
+}
+
+/// A base, which is kept once where it is the former one.
+fn kept_once(alloc: Global, base: Base, former: &mut Base) -> Result<Base, NoMemory>
+    ensures { IfOk result (λ kept. kept ≡ base) }
+{
+    if base.as_str() != former.as_str() {
+        *former = base;
+    }
+    former.copy(alloc)
+}
+
+/// The base that references give one after another.
+fn deepest(alloc: Global, url: &Base, references: BaseWalk<'_>) -> Result<Base, UrlFault>
+    ensures { Gives (λ base. base) url_refusal result (chain url.now (bases_left references.entry)) }
+{
+    let mut base = url.copy(alloc)?;
+    for reference in references {
+        base = base.deeper(alloc, reference)?;
+    }
+    Ok(base)
+}
+
+/// The initialization part of a Representation.
+fn initialization_of(
+    alloc: Global,
+    row: &RepView<'_>,
+    told: &Addressing<'_>,
+    template: &Option<Template>,
+    base: &Base,
+) -> Result<Part, PresentationFault>
+    ensures { Gives (λ part. part) refusal result
+        (spec.initialization_of (row_of row.now).description (addressed told.now) template.now base.now) }
+{
+    match init_address(alloc, row, told, template, base) {
+        Ok(address) => Ok(Part {
+            address,
+            range: told.init_range(),
+        }),
+        Err(fault) => Err(at_url(fault, row.place())),
+    }
+}
+
+fn init_address(
+    alloc: Global,
+    row: &RepView<'_>,
+    told: &Addressing<'_>,
+    template: &Option<Template>,
+    base: &Base,
+) -> Result<Address, UrlFault>
+    ensures { Gives (λ address. address) url_refusal result
+        (referred base.now (spec.init_reference (row_of row.now).description (addressed told.now) template.now)) }
+{
+    match template {
+        Some(template) => {
+            let name = init_name(alloc, row, template)?;
+            base.join(alloc, name.as_str())
+        }
+        None => refer(alloc, base, told.init_reference()),
+    }
+}
+
+fn init_name(alloc: Global, row: &RepView<'_>, template: &Template) -> Result<Text, NoMemory>
+    ensures { IfOk result (λ name. name ≡ spec.init_name (row_of row.now).description template.now) }
+{
+    let id = Text::copy_of(alloc, row.id())?;
+    let ids = Ids {
+        id,
+        bandwidth: row.bandwidth(),
+        number: 0,
+        time: 0,
+    };
+    Ok(template.name(alloc, &ids)?)
+}
+
+/// The address of a reference against a base. An absent one is the base itself.
+#[tactic(auto, using(crate::proofs::OwnAddress::own_address))]
+fn refer(alloc: Global, base: &Base, reference: Option<&str>) -> Result<Address, UrlFault>
+    ensures { Gives (λ address. address) url_refusal result (referred base.now (option_map (λ text. text.now) reference.entry)) }
+{
+    match reference {
+        Some(reference) => base.join(alloc, reference),
+        None => base.join(alloc, base.as_str()),
+    }
+}
+
+fn at_template(fault: TemplateFault, place: Place) -> PresentationFault
+    ensures { result ≡ spec.template_told place fault }
+{
+    match fault {
+        TemplateFault::Memory => PresentationFault::Memory,
+        _ => PresentationFault::Template(fault, place),
+    }
+}
+
+fn at_url(fault: UrlFault, place: Place) -> PresentationFault
+    ensures { result ≡ spec.url_told place fault }
+{
+    match fault {
+        UrlFault::Memory => PresentationFault::Memory,
+        _ => PresentationFault::Url(fault, Spot::At(place)),
+    }
+}
+
+fn at_times(fault: TimeFault, place: Place) -> PresentationFault
+    ensures { result ≡ spec.times_told place fault }
+{
+    match fault {
+        TimeFault::Memory => PresentationFault::Memory,
+        _ => PresentationFault::Timeline(fault, place),
+    }
+}

@@ -1,5 +1,0 @@
-use Rattle.mpd_text.proofs.OneReading.{one_reading}
-use Rattle.mpd_text.proofs.laws.one_reading.Goals as goal
-
-pub returns : goal.returns
-returns c = one_reading

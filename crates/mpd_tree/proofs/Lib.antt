@@ -1,0 +1,17 @@
+pub mod Around
+pub mod Cleaned
+pub mod Comments
+pub mod Cuts
+pub mod Elements
+pub mod EscapeLemmas
+pub mod ForestLemmas
+pub mod KeptLemmas
+pub mod LineLemmas
+pub mod NodeLemmas
+pub mod OneReading
+pub mod PackedLemmas
+pub mod Produced
+pub mod ReadBack
+pub mod Spelled
+pub mod Tags
+pub mod Texts

@@ -1,0 +1,11 @@
+-- Why reading stops: at a fault, or for want of memory, which is none.
+use Rattle.mpd_tree.specs.declared.stop.Stop.TheVariants as stops
+use Rattle.std.specs.Prelude.{Option, Some, None}
+use Rattle.mpd_tree.specs.{declared.stop.Fault.Fault, declared.stop.Stop.Stop}
+
+abbrev pub stopped : Fault → Stop
+stopped f = stops.Fault f
+
+abbrev pub fault_in : Stop → Option Fault
+fault_in stops.Memory = None
+fault_in (stops.Fault f) = Some f

@@ -1,6 +1,0 @@
-use Rattle.std.proofs.Common.{◌≡◌, ◌+◌, length}
-use Rattle.presentation.specs.Rows.{all_left}
-use Rattle.presentation.proofs.checks.has_more_periods.Given as goal
-
-abbrev pub invariant-loop-passed : goal.invariant-loop-passed
-invariant-loop-passed l = l._passed + length (all_left l.periods) ≡ length (all_left l.fn.periods)

@@ -1,6 +1,0 @@
-use Rattle.std.proofs.Common.{◌≡◌, ◌+◌, length}
-use Rattle.presentation.specs.Rows.{rows_left}
-use Rattle.presentation.proofs.checks.has_more_rows.Given as goal
-
-abbrev pub invariant-loop-passed : goal.invariant-loop-passed
-invariant-loop-passed l = l._passed + length (rows_left l.rows) ≡ length (rows_left l.fn.rows)

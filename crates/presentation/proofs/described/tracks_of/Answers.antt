@@ -1,8 +1,0 @@
-use Rattle.std.proofs.Common.{◌≡◌, IfOk, subst}
-use Rattle.presentation.specs.Rows.{row_of, track_of}
-use Rattle.presentation.proofs.Joining.{seen_twice}
-use Rattle.presentation.proofs.described.tracks_of.Goals as goal
-
-pub returns : goal.returns
-returns c = subst (λ tracks. IfOk c.tracks_seen.result (λ made. made ≡ tracks))
-    (seen_twice track_of row_of c.args.rows.now) c.tracks_seen.ensures

@@ -1,8 +1,0 @@
-use Rattle.std.proofs.Common.{◌≡◌, ◌++◌, map, drop}
-use Rattle.mpd_rules.specs.Views.{track_in}
-use Rattle.presentation.specs.Rows.{track_of}
-use Rattle.presentation.proofs.described.tracks_seen.Given as goal
-
-abbrev pub invariant-loop-view : goal.invariant-loop-view
-invariant-loop-view g l = l.tracks ++ map (λ view. track_of (track_in view)) (drop l.view-index l.views) ≡ map
-    (λ view. track_of (track_in view)) l.views
