@@ -57,6 +57,28 @@ timeout 10 "$bridge" hls vod.mpd --base=https://h.example/ --out=f > f.txt; is '
 mkdir g; ln -s /dev/full g/t0.m3u8
 timeout 10 "$bridge" hls vod.mpd --base=https://h.example/ --out=g > g.txt; is 'a device for a playlist, status' $? 4
 
+# A folder that vanishes under `follow` isn't made again with half of the files.
+python3 - "$bridge" <<'PY' || failed=1
+import os, shutil, subprocess, sys
+def mpd(count):
+    return ('<?xml version="1.0"?>\n<MPD xmlns="urn:mpeg:dash:schema:mpd:2011" type="dynamic" availabilityStartTime="2024-01-01T00:00:00Z" '
+            'timeShiftBufferDepth="PT60S"><Period id="p" start="PT0S"><AdaptationSet mimeType="video/mp4"><Representation id="v" '
+            'bandwidth="1000" codecs="avc1.42c01e"><SegmentTemplate timescale="1" initialization="i.mp4" media="s$Number$.m4s">'
+            f'<SegmentTimeline><S t="0" d="2" r="{count - 1}"/></SegmentTimeline></SegmentTemplate></Representation></AdaptationSet>'
+            "</Period></MPD>\n").encode()
+run = subprocess.Popen([sys.argv[1], "follow", "m.mpd", "--base=https://h.example/", "--out=h"], stdin=subprocess.PIPE, stdout=subprocess.PIPE)
+def answer(instant, body):
+    run.stdin.write(b"mpd %s %d\n" % (instant, len(body)) + body); run.stdin.flush()
+    return run.stdout.readline()
+first = answer(b"2024-01-01T00:00:20Z", mpd(10))
+shutil.rmtree("h")
+second = answer(b"2024-01-01T00:00:24Z", mpd(12))
+run.stdin.close()
+good = first.startswith(b"frame 0 ok") and second == b"write fault\n" and run.wait(20) == 4 and not os.path.exists("h")
+print("ok   a folder that vanishes" if good else f"BAD  a folder that vanishes: {first} {second}")
+sys.exit(not good)
+PY
+
 # A name of the program that is no text is none of the words.
 python3 - "$bridge" <<'PY' || failed=1
 import os, subprocess, sys
