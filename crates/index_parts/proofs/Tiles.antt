@@ -4,7 +4,7 @@ use Rattle.std.proofs.{Common.{Some, None, if◌then◌else◌, Ok, refl, sym, �
 use Rattle.bridge_io.proofs.AndThen.{steps_of}
 use Rattle.bridge_io.specs.{Outside.Files, Answer.told_as}
 use Rattle.box_reader.specs.{Boxes.Left, Parts.part_of as part_read}
-use Rattle.segment_index.specs.{declared.reference.Reference.Reference, Index.{Index, index_of}, Laws.{Tile, end_from}}
+use Rattle.segment_index.specs.{declared.reference.Reference.Reference, Index.{Index, index_of}, Laws.{Tile, end_from, extents_from as covered_from}}
 use Rattle.timeline.specs.{declared.fault.TimeFault.TimeFault, Expansions.SegmentTimeline}
 use Rattle.timeline.proofs.OpenEnds.{no_fault}
 use Rattle.url_parts.specs.{Addresses.{chain, local_name_of}, declared.address.Part.Part}
@@ -27,6 +27,11 @@ parts_tile : (address : List ℕ) (first : ℕ) (rs : List Reference)
     → Tile first (end_from first rs) (map bytes_of (parts_from address first rs))
 parts_tile address first [] = refl
 parts_tile address first (r ∷ rs) = (refl, parts_tile address (first + r.size) rs)
+
+parts_cover : (address : List ℕ) (first : ℕ) (rs : List Reference)
+    → map bytes_of (parts_from address first rs) ≡ covered_from first rs
+parts_cover address first [] = refl
+parts_cover address first (r ∷ rs) = ap (λ others. (first, first + r.size) ∷ others) (parts_cover address (first + r.size) rs)
 
 parts_own : (address : List ℕ) (first : ℕ) (rs : List Reference)
     → All (λ (part : Part). part.address ≡ address) (parts_from address first rs)
@@ -195,6 +200,7 @@ indexed url folder files row l bytes index located read found =
       members = refl;
       many = refl;
       own = parts_own l.address index.first index.references;
+      each = parts_cover l.address index.first index.references;
       tile = parts_tile l.address index.first index.references;
       lasting = subst (λ timescale. LastAs timescale 0 index.references (extents_in index)) ticks
           (last_as (ticks_of index) 0 index.references);

@@ -2,7 +2,7 @@
 use Rattle.std.specs.Prelude.{◌≡◌, ℕ, ◌+◌, List, [], ◌∷◌, map, length, take, drop, All, Option, Some, None, Ok}
 use Rattle.bridge_io.specs.Outside.{Files}
 use Rattle.exact_time.specs.Time.{in_units}
-use Rattle.segment_index.specs.{declared.reference.Reference.Reference, Index.{Index, index_of}, Laws.{Tile, end_from}}
+use Rattle.segment_index.specs.{declared.reference.Reference.Reference, Index.{Index, index_of}, Laws.{Tile, end_from, extents_from}}
 use Rattle.timeline.specs.{declared.names.Names.TheVariants.Addresses, Expansions.{Closed, Extent}}
 use Rattle.url_parts.specs.{Addresses.{chain, local_name_of}, declared.address.Part.Part, declared.range.Range.Range}
 use Rattle.index_parts.specs.{declared.located.Listed.Listed, Located.track_parts, Rows.{Row, told_in}}
@@ -23,9 +23,9 @@ LastAs timescale start (r ∷ rs) [] = ⊥
 LastAs timescale start (r ∷ rs) (x ∷ xs) =
     (x.start ≡ in_units timescale start) × (x.end ≡ in_units timescale (start + r.duration)) × LastAs timescale (start + r.duration) rs xs
 
--- A Representation's segments are told by the first index in the index range of its file. They are parts of that file, as many as
--- the index has references, in their order: their bytes lie one behind another, from the first byte that the index covers up to
--- the last one's end, and each lasts as long as its reference says.
+-- A Representation's segments are told by the first index in the index range of its file. They are parts of that file, one for each
+-- of the index's references, in their order: each has as many bytes as its reference says, they lie one behind another, from the
+-- first byte that the index covers up to the last one's end, and each lasts as long as its reference says.
 pub record IsIndexed (url folder : List ℕ) (files : Files) (row : Row) (listed : Listed) : Type 0 where
   pub address : List ℕ
   pub file : List ℕ
@@ -42,6 +42,7 @@ pub record IsIndexed (url folder : List ℕ) (files : Files) (row : Row) (listed
   pub members : listed.content.runs.members ≡ map Closed extents
   pub many : listed.segments ≡ length index.references
   pub own : All (λ part. part.address ≡ address) parts
+  pub each : map bytes_of parts ≡ extents_from index.first index.references
   pub tile : Tile index.first (end_from index.first index.references) (map bytes_of parts)
   pub lasting : LastAs index.timescale 0 index.references extents
 
