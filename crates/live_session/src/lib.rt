@@ -12,5 +12,6 @@ mod new_segments;
 mod playlist;
 mod session;
 
+pub use live_judge::RefreshFault;
 pub use playlist::LivePlaylist;
 pub use session::{Appended, Session};
