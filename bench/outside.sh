@@ -1,7 +1,8 @@
 #!/usr/bin/env bash
-# outside.sh: tries the built program on the real system as no table does: standard streams that are closed, inputs that are replaced
-# by rename while they are read, outputs that are no files, a folder that vanishes under `follow`, and a program's name that is no text.
-# BRIDGE names the program; otherwise crates/bridge/out/bridge. It ends with 0 where all is as docs/DECISIONS.md says.
+# outside.sh: tries the built program on the real system as no table does: each exit status, words that are no text, standard streams that
+# are closed or fail, files that may not be read or find no room, inputs that are replaced by rename while they are read, outputs that are
+# no files, a folder that vanishes under `follow`, and a program's name that is no text. BRIDGE names the program; otherwise
+# crates/bridge/out/bridge. It ends with 0 where all is as docs/DECISIONS.md says.
 set -u
 here=$(cd "$(dirname "$0")/.." && pwd)
 bridge=${BRIDGE:-$here/crates/bridge/out/bridge}
@@ -12,6 +13,37 @@ cd "$work" || exit 1
 failed=0
 is() { if [ "$2" = "$3" ]; then echo "ok   $1"; else echo "BAD  $1: $2, wanted $3"; failed=1; fi; }
 lines() { grep -c -E '^(done|mpd|frame|refused) ' "$@" 2>/dev/null | awk -F: '{ n += $NF } END { print n + 0 }'; }
+
+# Each status, as the report's rules give it.
+"$bridge" show vod.mpd --base=https://h.example/ > 0.txt; is 'done, status' $? 0
+echo '<MPD' > refused.mpd
+"$bridge" show refused.mpd --base=https://h.example/ > 1.txt; is 'refused, status' $? 1
+"$bridge" show > 2.txt; is 'no job, status' $? 2
+"$bridge" show $'\xff' --base=https://h.example/ > 2.txt; is 'a word that is no text, status' $? 2
+printf '#EXTM3U\n#EXT-X-TARGETDURATION:2\n#EXTINF:2,\ns0.m4s\n#EXTINF:2,\ns1.m4s\n' > old.m3u8
+printf '#EXTM3U\n#EXT-X-TARGETDURATION:2\n#EXTINF:2,\ns0.m4s\n' > new.m3u8
+"$bridge" reload old.m3u8 new.m3u8 --base=https://h.example/ > 6.txt; is 'another, status' $? 6
+
+# What may not be read is a read fault, and is not told as absent; what finds no room is a write fault.
+cp vod.mpd secret.mpd; chmod 000 secret.mpd
+if [ "$(id -u)" = 0 ]; then
+    chmod 755 "$work"
+    setpriv --reuid=65534 --regid=65534 --clear-groups "$bridge" show secret.mpd --base=https://h.example/ > 3.txt; status=$?
+else
+    "$bridge" show secret.mpd --base=https://h.example/ > 3.txt; status=$?
+fi
+is 'a file that may not be read, status' $status 3
+"$bridge" follow live.mpd --base=https://h.example/ --out=i < "$work" > 3.txt; is 'a folder as standard input, status' $? 3
+python3 - "$bridge" <<'PY' || failed=1
+import resource, signal, subprocess, sys
+def limit():
+    signal.signal(signal.SIGXFSZ, signal.SIG_IGN)
+    resource.setrlimit(resource.RLIMIT_FSIZE, (100, 100))
+run = subprocess.run([sys.argv[1], "hls", "vod.mpd", "--base=https://h.example/", "--out=j"], stdout=subprocess.PIPE, preexec_fn=limit)
+good = run.returncode == 4 and run.stdout == b"write fault\n"
+print("ok   no room for a file" if good else f"BAD  no room for a file: {run.returncode} {run.stdout}")
+sys.exit(not good)
+PY
 
 # The report never goes into a file, whichever of the streams are closed.
 "$bridge" hls vod.mpd --base=https://h.example/ --out=a >&-; is 'closed output, status' $? 4

@@ -7,6 +7,8 @@
 //! - `word WORD` adds a word of the command.
 //! - `text TEXT` adds a text to the next file, `line TEXT` a text and a line feed, `hex HEX` the bytes of these digits, and
 //!   `times NUMBER TEXT` a text that many times.
+//! - `clock NUMBER FIRST STEP TEXT` adds a text that many times in which each `@` stands for a time of day: the first one so many
+//!   seconds past midnight, each other one so many later than the one before.
 //! - `file NAME` puts the next file into the store, and `input TEXT` adds it, and then the text, to what stands on standard
 //!   input.
 //! - `run` runs the command, and prints its status and its report.
@@ -157,6 +159,7 @@ fn read(alloc: Global, row: &mut Row, line: &str) -> Result<(), NoMemory> {
         }
         "hex" => add_hex(&mut row.next, rest),
         "times" => add_times(alloc, &mut row.next, rest),
+        "clock" => add_clock(alloc, &mut row.next, rest),
         "file" => file(alloc, row, rest),
         "input" => input(alloc, row, rest),
         "run" => run(alloc, row),
@@ -238,12 +241,43 @@ fn meant(letter: char) -> char {
 }
 
 fn add_times(alloc: Global, bytes: &mut Bytes, rest: &str) -> Result<(), NoMemory> {
-    let (number, written) = rest.split_once(' ').unwrap_or(("", ""));
+    let (number, written) = number_then(rest);
     let text = unescaped(alloc, written)?;
-    for _ in 0..number_of(number).unwrap_or(0) {
+    for _ in 0..number {
         bytes.extend(text.as_str().as_bytes())?;
     }
     Ok(())
+}
+
+/// The number that a text begins with, and what stands behind the blank after it.
+fn number_then(text: &str) -> (u64, &str) {
+    let (digits, rest) = text.split_once(' ').unwrap_or((text, ""));
+    (number_of(digits).unwrap_or(0), rest)
+}
+
+/// Adds a text many times with a time of day for each `@`.
+fn add_clock(alloc: Global, bytes: &mut Bytes, rest: &str) -> Result<(), NoMemory> {
+    let (number, rest) = number_then(rest);
+    let (first, rest) = number_then(rest);
+    let (step, written) = number_then(rest);
+    let text = unescaped(alloc, written)?;
+    let mut seconds = first;
+    for _ in 0..number {
+        for letter in text.as_str().bytes() {
+            if letter == b'@' {
+                bytes.extend(time_of_day(alloc, seconds)?.as_str().as_bytes())?;
+                seconds = seconds.saturating_add(step);
+            } else {
+                bytes.push(letter)?;
+            }
+        }
+    }
+    Ok(())
+}
+
+fn time_of_day(alloc: Global, seconds: u64) -> Result<String, NoMemory> {
+    let (hours, minutes) = (seconds / 3600, seconds / 60 % 60);
+    Ok(format!(in alloc; "{hours:02}:{minutes:02}:{:02}", seconds % 60)?)
 }
 
 /// Adds the bytes of these digits, two for each.
