@@ -17,6 +17,8 @@ IsBounded (job.Hls j) = IsTrue (is_folder j.out) × (j.digits ≤ 9)
 IsBounded (job.Dash j) = IsTrue (is_name j.master)
 IsBounded (job.HlsIndex j) = IsTrue (is_folder j.out) × (j.digits ≤ 9)
 IsBounded (job.Check j) = IsTrue (is_name j.master)
+IsBounded (job.DashTimes j) = IsTrue (is_name j.master)
+IsBounded (job.FollowHls j) = IsTrue (is_name j.master)
 IsBounded other = Unit {0}
 
 -- ---- what holds of the end of some steps
@@ -132,9 +134,9 @@ bounded_by verb.Check rows = mapped _ job.Check (check_of rows) (λ j is. is) (c
 bounded_by verb.Reload rows = free job.Reload (reload_of rows) (λ _. tt)
 bounded_by verb.Make rows = free job.Make (make_of rows) (λ _. tt)
 bounded_by verb.HlsIndex rows = mapped _ job.HlsIndex (index_of rows) (λ j is. is) (index_bounded rows)
-bounded_by verb.DashTimes rows = free job.DashTimes (master_of rows) (λ _. tt)
+bounded_by verb.DashTimes rows = mapped _ job.DashTimes (master_of rows) (λ j is. is) (master_bounded rows)
 bounded_by verb.Agree rows = free job.Agree (agree_of rows) (λ _. tt)
-bounded_by verb.FollowHls rows = free job.FollowHls (master_of rows) (λ _. tt)
+bounded_by verb.FollowHls rows = mapped _ job.FollowHls (master_of rows) (λ j is. is) (master_bounded rows)
 
 pub bounded : (words : List (List ℕ)) → IfSome (job_of words) IsBounded
 unfolding job_of

@@ -138,7 +138,7 @@ pub record IsReadFrom (place : StorePlace) (files : Files) (p : Presented) : Typ
   pub presented : hls_presented_of tracks medias ≡ Ok p
 
 module _ (rates : ReadHaveRates) where
-  master_read : (place : StorePlace) (bytes : List ℕ) (tracks : List MasterTrack) → master_in place bytes ≡ Ok tracks
+  pub master_read : (place : StorePlace) (bytes : List ℕ) (tracks : List MasterTrack) → master_in place bytes ≡ Ok tracks
       → master_of bytes place.url ≡ Ok (map track_seen tracks)
   unfolding master_in
   master_read place bytes tracks is =
@@ -173,14 +173,14 @@ module _ (rates : ReadHaveRates) where
 
 -- ---- the promise
 
-abbrev IsSeenOfBytes : TrackValue → Type 0
+abbrev pub IsSeenOfBytes : TrackValue → Type 0
 IsSeenOfBytes track = All (λ b. b < 256) track.address
 
-abbrev IsOfBytes : MasterTrack → Type 0
+abbrev pub IsOfBytes : MasterTrack → Type 0
 IsOfBytes track = All (λ b. b < 256) track.address
 
 module _ (bounded : ReadIsBounded) where
-  each_bounded : (files : Files) (folder : List ℕ) (tracks : List MasterTrack) (medias : List Media)
+  pub each_bounded : (files : Files) (folder : List ℕ) (tracks : List MasterTrack) (medias : List Media)
       → ArePlaylists files folder tracks medias → All IsBoundedMedia medias
   each_bounded files folder [] [] are = All-nil IsBoundedMedia
   each_bounded files folder [] (media ∷ medias) are = absurd are
@@ -190,7 +190,7 @@ module _ (bounded : ReadIsBounded) where
       (each_bounded files folder tracks medias are.1)
 
 module _ (addresses : ReadHaveAddresses) where
-  each_addressed : (files : Files) (folder : List ℕ) (tracks : List MasterTrack) (medias : List Media) → All IsOfBytes tracks
+  pub each_addressed : (files : Files) (folder : List ℕ) (tracks : List MasterTrack) (medias : List Media) → All IsOfBytes tracks
       → ArePlaylists files folder tracks medias → All HaveAddresses medias
   each_addressed files folder [] [] of_bytes are = All-nil HaveAddresses
   each_addressed files folder [] (media ∷ medias) of_bytes are = absurd are
@@ -199,7 +199,7 @@ module _ (addresses : ReadHaveAddresses) where
       All-cons HaveAddresses media medias (addresses are.0.bytes track.address media (All-head IsOfBytes track tracks of_bytes) are.0.read)
       (each_addressed files folder tracks medias (All-tail IsOfBytes track tracks of_bytes) are.1)
 
-all_of_bytes : (tracks : List MasterTrack) → All IsSeenOfBytes (map track_seen tracks) → All IsOfBytes tracks
+pub all_of_bytes : (tracks : List MasterTrack) → All IsSeenOfBytes (map track_seen tracks) → All IsOfBytes tracks
 all_of_bytes [] all = All-nil IsOfBytes
 all_of_bytes (track ∷ tracks) all =
     All-cons IsOfBytes track tracks (All-head IsSeenOfBytes (track_seen track) (map track_seen tracks) all)

@@ -9,11 +9,12 @@ use Rattle.hls_follow.specs.declared.state.Followed.{Followed}
 use Rattle.dash_writer.specs.Live.{live_text}
 use Rattle.bridge_jobs.specs.{Frames.start, Laws.in_folder, declared.round.Round.Round}
 use Rattle.bridge_courses.specs.Courses.{files_to}
-use Rattle.bridge_report.specs.{Following.unless_refused, Laws.{FileIsOfAccepted, IsRewritten, accepted_in, state_after}}
+use Rattle.bridge_report.specs.{Following.unless_refused, Laws.{FileIsOfAccepted, FilesAreOfAccepted, IsRewritten, accepted_in}}
+use Rattle.bridge_report.specs.Laws.{files_along, state_after}
 use Rattle.bridge_report.specs.{Refusals.refusal_text, declared.refusal.Refusal.Refusal}
 use Rattle.bridge_steps.specs.Follow.{fault_line}
-use Rattle.bridge_reach.specs.{RoundLaws.{AcceptedLeaveAnMpd, FileIsOfTheHistory, accepted_among, left_by}, Rounds.course_with}
-use Rattle.bridge_reach.specs.Rounds.{followed_rounds, hls_of, medias_of, mpd_text, no_rounds, round_state, round_stream, taken}
+use Rattle.bridge_reach.specs.RoundLaws.{AcceptedLeaveAnMpd, FileIsOfTheHistory, NoneWriteNothing, accepted_among, left_by}
+use Rattle.bridge_reach.specs.Rounds.{course_with, followed_rounds, hls_of, medias_of, mpd_text, no_rounds, round_state, round_stream, taken}
 use Rattle.bridge_reach.specs.{declared.rounds.LiveHls.LiveHls, declared.rounds.LiveRounds.LiveRounds}
 use Rattle.bridge_reach.proofs.Rounding.{IsOneMore, one_more}
 
@@ -84,3 +85,9 @@ file_is law out tracks bytes n followed first last left puts = go (accepted_amon
         (no_rounds tracks)
         0 0 stream.0 (option_map fault_line stream.1) n x more first last e puts
         ∙ ap (λ (o : Option Followed). Some (option_map_or (λ f. live_text f.mpd) o [])) left
+
+pub none_write : FilesAreOfAccepted LiveRounds Round → NoneWriteNothing
+none_write along out tracks bytes n none =
+    let f = followed_rounds (hls_of out tracks) in
+    let stream = round_stream (hls_of out tracks) start bytes in
+    along f (no_rounds tracks) 0 0 stream.0 (option_map fault_line stream.1) n ∙ ap (files_along f (no_rounds tracks)) none

@@ -38,14 +38,14 @@ made files say (Ok y) written line reads is =
 
 -- ---- the times of the files
 
-record AreRuns (place : StorePlace) (files : Files) (p : Presented) (runs : List TickRun) : Type 0 where
-  times : List SegmentTimes
-  stated : times_of place.folder files p ≡ Ok times
-  rows : List (List ℕ)
-  lasting : durations_of p times ≡ Ok rows
-  are : runs_of times rows ≡ runs
+pub record AreRuns (place : StorePlace) (files : Files) (p : Presented) (runs : List TickRun) : Type 0 where
+  pub times : List SegmentTimes
+  pub stated : times_of place.folder files p ≡ Ok times
+  pub rows : List (List ℕ)
+  pub lasting : durations_of p times ≡ Ok rows
+  pub are : runs_of times rows ≡ runs
 
-are_runs : (place : StorePlace) (files : Files) (p : Presented) (runs : List TickRun) → runs_at place files p ≡ Ok runs
+pub are_runs : (place : StorePlace) (files : Files) (p : Presented) (runs : List TickRun) → runs_at place files p ≡ Ok runs
     → AreRuns place files p runs
 unfolding runs_at
 are_runs place files p runs is =
@@ -61,7 +61,7 @@ are_runs place files p runs is =
 
 module _ (folder : List ℕ) (files : Files) (p : Presented) (times : List SegmentTimes) (rows : List (List ℕ))
     (stated : times_of folder files p ≡ Ok times) (lasting : durations_of p times ≡ Ok rows) where
-  in_section : (s t : ℕ) → s < length p.sections → t < length p.tracks → IsTimed folder files p (runs_of times rows) s t
+  pub in_section : (s t : ℕ) → s < length p.sections → t < length p.tracks → IsTimed folder files p (runs_of times rows) s t
   in_section s t in_sections in_tracks content has =
       let filled = are_filled folder files p times stated in
       let own = stated_at folder files p times stated s t content in_sections in_tracks has in

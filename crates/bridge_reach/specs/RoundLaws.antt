@@ -1,5 +1,5 @@
 -- What rounds leave that are accepted one behind another.
-use Rattle.std.specs.Prelude.{◌≡◌, ℕ, codes, List, ◌∷◌, take, Some, IsSome}
+use Rattle.std.specs.Prelude.{◌≡◌, ℕ, codes, List, [], ◌∷◌, take, Some, IsSome}
 use Rattle.bridge_io.specs.{InOrder.put_all, Outside.{Files, Changes}}
 use Rattle.hls_master.specs.declared.track.MasterTrack.{MasterTrack}
 use Rattle.hls_follow.specs.declared.state.Followed.{Followed}
@@ -23,6 +23,11 @@ left_by out tracks bytes n = state_after (followed_rounds (hls_of out tracks)) (
 abbrev pub AcceptedLeaveAnMpd : Type 0
 AcceptedLeaveAnMpd = (out : List ℕ) (tracks : List MasterTrack) (bytes : List ℕ) (n : ℕ) (round : Round) (more : List Round)
     → accepted_among out tracks bytes n ≡ round ∷ more → IsSome (left_by out tracks bytes n).follow.followed
+
+-- where none was accepted, no file is written
+abbrev pub NoneWriteNothing : Type 0
+NoneWriteNothing = (out : List ℕ) (tracks : List MasterTrack) (bytes : List ℕ) (n : ℕ) → accepted_among out tracks bytes n ≡ []
+    → files_to n (course_with out tracks bytes) ≡ []
 
 -- After the files of any number of rounds, of which one was accepted, the file is the text of the MPD that the whole accepted
 -- history left.

@@ -1,6 +1,6 @@
 -- The times that files tell of themselves: ISO/IEC 14496-12, 8.4.2 (`mdhd`) and 8.8.12 (`tfdt`).
 use Rattle.box_reader.specs.declared.head.BoxFault.TheVariants as box
-use Rattle.std.specs.Prelude.{ℕ, ◌+◌, ◌^◌, ◌==◌, nat_lt, List, codes, length, get_or, count_by, if◌then◌else◌, Option, Some, None, Result}
+use Rattle.std.specs.Prelude.{ℕ, ◌+◌, ◌%◌, ◌^◌, ◌==◌, nat_lt, List, codes, length, get_or, count_by, if◌then◌else◌, Option, Some, None, Result}
 use Rattle.std.specs.Prelude.{Ok, Err}
 use Rattle.bridge_io.specs.Answer.{and_then}
 use Rattle.box_reader.specs.{Boxes.{Found, Left, Walk, boxes_of, first_in, is_of}, Numbers.{u32_at, u64_at}}
@@ -39,8 +39,9 @@ abbrev pub version_of : Found → Result ℕ FileFault
 version_of found = if nat_lt (length found.body) 4 then Err (short found)
     else (if nat_lt 1 (get_or found.body 0 0) then Err Missing else Ok (get_or found.body 0 0))
 
+-- a number of 32 bits
 abbrev pub u32_in : (place : ℕ) → Found → Result ℕ FileFault
-u32_in place found = if nat_lt (length found.body) (place + 4) then Err (short found) else Ok (u32_at place found.body)
+u32_in place found = if nat_lt (length found.body) (place + 4) then Err (short found) else Ok (u32_at place found.body % 2 ^ 32)
 
 abbrev pub u64_in : (place : ℕ) → Found → Result ℕ FileFault
 u64_in place found = if nat_lt (length found.body) (place + 8) then Err (short found) else Ok (u64_at place found.body)

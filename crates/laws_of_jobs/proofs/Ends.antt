@@ -1,17 +1,20 @@
--- What runs leave that follow an MPD, and durations.
+-- What runs leave that follow something, and durations.
 use Rattle.live_meaning.specs.Refusals as rules
+use Rattle.bridge_courses.specs.declared.status.Status.TheVariants as status
 use Rattle.std.proofs.Common.{◌≡◌, ◌⊎◌, ℕ, List, [], ◌∷◌, ◌++◌, length, take, Option, None, Some, inl, inr, refl, sym, ap, ◌∙◌, subst}
 use Rattle.std.proofs.{Common.{arith, take_all}, lemmas.List.Elements.{All-append, All-cons, All-head, All-nil, All-tail}}
 use Rattle.std.proofs.lemmas.Option.{same_Some}
 use Rattle.std.specs.{Prelude.{All, flat_map}, List.fold}
 use Rattle.bridge_io.specs.{InOrder.{put_all, AreBegun}, Outside.{Files, Changes}}
 use Rattle.bridge_jobs.specs.declared.frame.Frame.{Frame}
-use Rattle.bridge_courses.specs.{Courses.{Course, files_of, files_to}, Laws.{ReadFaultLeavesSteps, ExecutionLeavesSteps, VerdictKeepsSteps}}
+use Rattle.bridge_courses.specs.{Courses.{Course, World, files_of, files_to}, Executions.status_by, declared.status.Status.Status}
+use Rattle.bridge_courses.specs.{declared.status.Verdict.Verdict, Laws.{ReadFaultLeavesSteps, ExecutionLeavesSteps, VerdictKeepsSteps}}
 use Rattle.live_meaning.specs.{Updates.{Terms, Update, Values, mpd_of}, Laws.{AcceptedAreAccepted, AcceptedNeverDrift, IsTyped}}
 use Rattle.live_meaning.specs.Laws.{accepted_of, with_accepted}
 use Rattle.laws_of_reloads.specs.Laws.{IsReadIfAny}
-use Rattle.laws_of_jobs.specs.{Histories.{FollowedNeverDrift, followed_at, frames_in, updates_to}, Files.FollowedFilesAreOfTheHistory}
-use Rattle.laws_of_jobs.specs.Ends.{FollowLeavesHistory, FollowedToAFault, FollowedToTheEnd}
+use Rattle.laws_of_jobs.specs.Histories.{FollowedNeverDrift, followed_at, frames_in, updates_to}
+use Rattle.laws_of_jobs.specs.Files.{FollowedFilesAreOfTheHistory, HoldsHistory}
+use Rattle.laws_of_jobs.specs.Ends.{AreOfSteps, FollowLeavesHistory, Held, IsRunOver, Leaves, LeavesSteps}
 use Rattle.laws_of_jobs.proofs.{Courses.{course_is, line_at_end}, FrameStates.accepting, Readings.{IsReadUpdate, are_read}}
 use Rattle.laws_of_jobs.proofs.Steps.{as_many_steps}
 
@@ -28,16 +31,18 @@ put_so : (fs : List (List ℕ × List ℕ)) (first last : Files) (before after :
 put_so fs first last before after was is changes =
     subst (λ b. Changes (put_all fs) b (Some last)) was (subst (Changes (put_all fs) before) is changes)
 
-module _ (files : FollowedFilesAreOfTheHistory) where
-  pub follow_leaves : ExecutionLeavesSteps → FollowLeavesHistory
-  follow_leaves leaves words job place input course end before after first last is run =
+module _ (Holds : Held) (course : Course)
+    (holds : (n : ℕ) (first last : Files) → Changes (put_all (files_to n course)) (Some first) (Some last) → Holds n first last) where
+  leaves_steps : ExecutionLeavesSteps → (end : Status) (before after : World) (first last : Files)
+      → IsRunOver course end before after first last → LeavesSteps Holds course first last
+  leaves_steps leaves end before after first last run =
       let so = leaves course end before after run.run in
       let mid : Files = put_all (files_to so.n course) first in
       let done : so.mid ≡ Some mid = subst (λ files. Changes (put_all (files_to so.n course)) files so.mid) run.was so.done in
       record {
         n = so.n;
         mid = mid;
-        frames = record { done = refl; holds = files words job place input course so.n first mid is refl };
+        steps = record { done = refl; holds = holds so.n first mid refl };
         step = so.step;
         next = so.next;
         left = elim (subst (LeftBy so.step.files after.files) done so.left) [
@@ -46,24 +51,39 @@ module _ (files : FollowedFilesAreOfTheHistory) where
         ];
       }
 
-  pub followed_to_the_end : VerdictKeepsSteps → FollowedToTheEnd
-  followed_to_the_end keeps words job place input course v before after first last is run =
-      let frames : List Frame = frames_in input in
-      let at = course_is words job place input course is in
-      let all : length course.steps ≡ length frames =
-      ap (λ (c : Course). length c.steps) at.is ∙ as_many_steps (followed_at job place) None 0 0 frames (line_at_end input) in
-      let each : files_of course ≡ files_to (length frames) course =
-      ap (flat_map (λ step. step.files)) (sym (take_all (length frames) course.steps (omega (arith, all)))) in
-      let done : Changes (put_all (files_to (length frames) course)) (Some first) (Some last) =
-      put_so (files_to (length frames) course) first last before.files after.files run.was run.is
+  to_the_end : VerdictKeepsSteps → (n : ℕ) → length course.steps ≡ n → (v : Verdict) (before after : World) (first last : Files)
+      → IsRunOver course (status_by v) before after first last → AreOfSteps Holds course n first last
+  to_the_end keeps n all v before after first last run =
+      let each : files_of course ≡ files_to n course =
+      ap (flat_map (λ step. step.files)) (sym (take_all n course.steps (omega (arith, all)))) in
+      let done : Changes (put_all (files_to n course)) (Some first) (Some last) =
+      put_so (files_to n course) first last before.files after.files run.was run.is
       (subst (λ fs. Changes (put_all fs) before.files after.files) each (keeps course v before after run.run).1) in
-      record { done = done; holds = files words job place input course (length frames) first last is done }
+      record { done = done; holds = holds n first last done }
 
-  pub followed_to_a_fault : ReadFaultLeavesSteps → FollowedToAFault
-  followed_to_a_fault leaves words job place input course before after first last is run =
+  to_a_fault : ReadFaultLeavesSteps → (before after : World) (first last : Files)
+      → IsRunOver course status.ReadFault before after first last → (n : ℕ) × AreOfSteps Holds course n first last
+  to_a_fault leaves before after first last run =
       let left = leaves course before after run.run in
       let done = put_so (files_to left.0 course) first last before.files after.files run.was run.is left.1 in
-      (left.0, record { done = done; holds = files words job place input course left.0 first last is done })
+      (left.0, record { done = done; holds = holds left.0 first last done })
+
+  pub leaves_all : ExecutionLeavesSteps → VerdictKeepsSteps → ReadFaultLeavesSteps → (n : ℕ) → length course.steps ≡ n
+      → Leaves Holds n course
+  leaves_all ends keeps fault n all = record {
+    ends = leaves_steps ends;
+    verdict = to_the_end keeps n all;
+    read_fault = to_a_fault fault;
+  }
+
+pub follow_leaves : FollowedFilesAreOfTheHistory → ExecutionLeavesSteps → VerdictKeepsSteps → ReadFaultLeavesSteps → FollowLeavesHistory
+follow_leaves files ends keeps fault words job place input course is =
+    let at = course_is words job place input course is in
+    let all : length course.steps ≡ length (frames_in input) =
+    ap (λ (c : Course). length c.steps) at.is
+    ∙ as_many_steps (followed_at job place) None 0 0 (frames_in input) (line_at_end input) in
+    leaves_all (λ n first mid. HoldsHistory job place n input mid) course
+    (λ n first last done. files words job place input course n first last is done) ends keeps fault (length (frames_in input)) all
 
 -- ---- durations
 

@@ -19,8 +19,8 @@ use Rattle.hls_follow.specs.{Rounds.{kept_in, mpd_of, mpd_or_fault, placed_of, s
 use Rattle.hls_follow.proofs.{Histories.from_first, Rounding.millis_near, Staying.{Parts, parts_of}}
 use Rattle.laws_of_mpds.specs.{Written.{CanBeTold, HaveAddresses, ReadCanBeTold}, Live.{IsReadableMpd, LiveTextsAreRead}, Texts.IsTellable}
 use Rattle.laws_of_mpds.proofs.Whole.{IsFit, both, sources_all}
-use Rattle.laws_of_jobs.specs.Followed.{FollowedAreRead, FollowedCanBeRead, IsReadRound}
-use Rattle.laws_of_jobs.proofs.{Periods.periods_read, Segments.{TimedSegment, all_groups_read, rows_read}}
+use Rattle.laws_of_jobs.specs.Followed.{AreFollowed, FollowedAreRead, FollowedCanBeRead, IsReadRound}
+use Rattle.laws_of_jobs.proofs.{Periods.{IsReadRun, periods_read, readable_period}, Segments.{TimedSegment, all_groups_read, rows_read}}
 
 -- ---- what is kept
 
@@ -82,31 +82,39 @@ start_readable None now start listed was read is = begins_readable now (last_end
 start_readable (Some former) now start listed was read is =
     subst IsReadable (let same : former.mpd.start ≡ start = cc in same) was
 
+-- an MPD that can be read, of which each segment lasts
+pub record IsReadMpd (mpd : LiveMpd) : Type 0 where
+  pub readable : IsReadableMpd mpd
+  pub lists : All (λ (period : LivePeriod). All IsReadRun period.runs) mpd.periods
+
 made_readable : (former : Option Followed) (all : List Source) (new : Followed) (p : Parts former all new) → All IsFit all
-    → IsReadable p.start → IsReadable p.now → IsReadableMpd new.mpd
+    → IsReadable p.start → IsReadable p.now → IsReadMpd new.mpd
 made_readable former all new p fit start now =
     let kept = subst (All IsFit) (sym p.are) (kept_fit (flags_of former all) all fit) in
-    let rows = rows_read (formers_of former) 0 p.kept p.timed kept p.times in
+    let rows = rows_read (formers_of former) 0 p.kept p.timed kept p.judged.segments p.times in
     let periods = periods_read (periods_of former) (map groups_of p.timed) (last_end (periods_of former)) 0 p.sections p.listed
     (all_groups_read p.timed rows.1) p.periods in
     let count : length (map groups_of p.timed) ≡ length (map track_of p.kept) =
     length-map p.timed groups_of ∙ rows.0 ∙ sym (length-map p.kept track_of) in
-    subst IsReadableMpd (sym p.mpd) (record {
-      live = record {
-        start = (omega (arith, ints, start.0), omega (arith, ints, start.1));
-        published = (omega (arith, ints, now.0), omega (arith, ints, now.1));
-        filled = λ i d within. (periods i d within).filled ∙ count;
+    subst IsReadMpd (sym p.mpd) (record {
+      readable = record {
+        live = record {
+          start = (omega (arith, ints, start.0), omega (arith, ints, start.1));
+          published = (omega (arith, ints, now.0), omega (arith, ints, now.1));
+          filled = λ i d within. (periods i d within).filled ∙ count;
+        };
+        start = start;
+        published = now;
+        periods = λ i d within. readable_period _ _ (periods i d within);
+        tracks = All-map IsTellable track_of p.kept (λ i d within.
+            let told = (kept i d within).0 in record { language = told.language; codecs = told.codecs });
       };
-      start = start;
-      published = now;
-      periods = λ i d within. (periods i d within).readable;
-      tracks = All-map IsTellable track_of p.kept (λ i d within.
-          let told = (kept i d within).0 in record { language = told.language; codecs = told.codecs });
+      lists = λ i d within. (periods i d within).runs;
     })
 
 round_readable : (tracks : List MasterTrack) (former : Option Followed) (round : Playlists) (new : Followed) → All CanBeTold tracks
     → BeginsReadable former → IsRound tracks round × IsReadRound round → followed_of tracks former round.0 round.1 ≡ Ok new
-    → IsReadableMpd new.mpd
+    → IsReadMpd new.mpd
 round_readable tracks former round new told was read is =
     let all = sources tracks round.1 in
     let p = parts_of tracks former round.0 round.1 new is in
@@ -118,13 +126,17 @@ round_readable tracks former round new told was read is =
 
 -- ---- over rounds
 
-pub can_be_read : ReadCanBeTold → FollowedCanBeRead
-can_be_read read master url tracks rounds new are =
+pub all_read : ReadCanBeTold → (master url : List ℕ) (tracks : List MasterTrack) (rounds : List Playlists) (new : Followed)
+    → AreFollowed master url tracks rounds new → IsReadMpd new.mpd
+all_read read master url tracks rounds new are =
     let told = read master url tracks are.read in
-    from_first tracks (λ (round : Playlists). IsRound tracks round × IsReadRound round) (λ (f : Followed). IsReadableMpd f.mpd)
+    from_first tracks (λ (round : Playlists). IsRound tracks round × IsReadRound round) (λ (f : Followed). IsReadMpd f.mpd)
     (λ round new given accepted. round_readable tracks None round new told tt given accepted)
-    (λ former round new was given accepted. round_readable tracks (Some former) round new told was.start given accepted)
+    (λ former round new was given accepted. round_readable tracks (Some former) round new told was.readable.start given accepted)
     rounds new (both (IsRound tracks) IsReadRound rounds are.accepted.whole are.each) are.accepted.left
+
+pub can_be_read : ReadCanBeTold → FollowedCanBeRead
+can_be_read read master url tracks rounds new are = (all_read read master url tracks rounds new are).readable
 
 pub are_read : LiveTextsAreRead → ReadCanBeTold → FollowedAreRead
 are_read texts read master url tracks rounds new are = texts new.mpd (can_be_read read master url tracks rounds new are)

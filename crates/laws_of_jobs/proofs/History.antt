@@ -1,8 +1,8 @@
 -- A run over rounds leaves what its whole history of accepted rounds leaves.
 use Rattle.bridge_report.specs.declared.refusal.Refusal.TheVariants as refusal
-use Rattle.std.proofs.Common.{◌≡◌, ◌+◌, ℕ, suc, List, [], ◌∷◌, ◌++◌, length, map, take, drop, Option, Some, None, option_map}
+use Rattle.std.proofs.Common.{◌≡◌, ◌+◌, ℕ, ℤ, suc, List, [], ◌∷◌, ◌++◌, length, map, take, drop, Option, Some, None, option_map}
 use Rattle.std.proofs.{Common.{option_and_then, Result, Ok, Err, refl, sym, ap, ◌∙◌, subst, arith, length-append}, lemmas.List.length-map}
-use Rattle.std.proofs.{lemmas.List.Elements.{All-nil, All-cons, All-drop, All-head, All-push, All-tail, All-take}, Math.Seq.take-add}
+use Rattle.std.proofs.{lemmas.List.Elements.{All-nil, All-cons, All-drop, All-head, All-push, All-tail, All-take, All-weaker}, Math.Seq.take-add}
 use Rattle.std.specs.{List.All, Result.{result_err, result_unwrap_or}}
 use Rattle.bridge_io.proofs.AndThen.{steps_of}
 use Rattle.hls_master.specs.declared.track.MasterTrack.{MasterTrack}
@@ -19,7 +19,7 @@ use Rattle.bridge_reach.specs.Rounds.{followed_rounds, hls_of, media_in, medias_
 use Rattle.bridge_reach.specs.{Rounds.{round_stream, taken, urls_of}, declared.rounds.LiveHls.LiveHls}
 use Rattle.bridge_reach.specs.declared.rounds.LiveRounds.{LiveRounds}
 use Rattle.laws_of_jobs.specs.Rounds.{LeftIsOfTheHistory, ListedSegmentsStay, playlists_at}
-use Rattle.laws_of_jobs.proofs.Bodies.{all_have}
+use Rattle.laws_of_jobs.proofs.Bodies.{IsWhole, all_have}
 
 -- ---- one round
 
@@ -127,7 +127,7 @@ module _ (bounded : ReadIsBounded) where
               (subst (λ (medias : List Media). IsRound tracks (x.now, medias)) (sym read) one) rest.whole;
         }
 
-    goes : (xs : List Round) (s : LiveRounds) → s.follow.tracks ≡ tracks → All (λ (r : Round). length r.bodies ≡ length tracks) xs
+    pub goes : (xs : List Round) (s : LiveRounds) → s.follow.tracks ≡ tracks → All (λ (r : Round). length r.bodies ≡ length tracks) xs
         → Goes s (accepted_in (followed_rounds (hls_of out tracks)) s xs)
     goes [] s kept each = record { kept = kept; left = refl; whole = All-nil (IsRound tracks) }
     goes (x ∷ xs) s kept each =
@@ -164,12 +164,18 @@ both hls (x ∷ xs) ys s = go ((followed_rounds hls).refusal s x) (λ t. both hl
 
 -- ---- over streams
 
-each_has : (out : List ℕ) (tracks : List MasterTrack) (bytes : List ℕ)
+abbrev AnyInstant : ℤ → Type 0
+AnyInstant now = Unit {0}
+
+pub each_has : (out : List ℕ) (tracks : List MasterTrack) (bytes : List ℕ)
     → All (λ (r : Round). length r.bodies ≡ length tracks) (round_stream (hls_of out tracks) start bytes).0
 each_has out tracks bytes =
-    subst (λ (n : ℕ). All (λ (r : Round). length r.bodies ≡ n) (round_stream (hls_of out tracks) start bytes).0)
+    let stream = (round_stream (hls_of out tracks) start bytes).0 in
+    subst (λ (n : ℕ). All (λ (r : Round). length r.bodies ≡ n) stream)
     (length-map tracks (λ (track : MasterTrack). track.address))
-    (all_have (suc (length bytes)) (length (urls_of tracks)) start bytes)
+    (All-weaker (IsWhole AnyInstant (λ text now is. tt) (length (urls_of tracks)))
+    (λ (r : Round). length r.bodies ≡ length (urls_of tracks)) (λ r whole. whole.bodies) stream
+    (all_have AnyInstant (λ text now is. tt) (suc (length bytes)) (length (urls_of tracks)) start bytes))
 
 pub left_is : ReadIsBounded → LeftIsOfTheHistory
 left_is bounded out tracks bytes n =

@@ -10,10 +10,14 @@ mod FrameStates
 pub mod History
 mod JudgedFrames
 mod Lasting
+mod LiveLists
 mod Periods
 mod Readings
 mod Reloads
+mod RoundReadings
+mod RoundRuns
 mod Scales
 mod Segments
 mod Steps
 mod Timed
+mod TimedRuns

@@ -1,7 +1,7 @@
 -- The Periods of playlists that are read can be written and read.
 use Rattle.std.proofs.Common.{◌≡◌, ℕ, suc, ◌+◌, ◌<◌, ◌^◌, max, Bool, true, false, leb, List, [], ◌∷◌, map, length, All, Option, Some, None}
 use Rattle.std.proofs.{Common.{Ok, IfOk, IfSome, refl, sym, ◌∙◌, ap, subst, arith}, lemmas.Bool.Decides.nat_tests, lemmas.List.length-map}
-use Rattle.std.proofs.lemmas.List.Elements.{All-head, All-tail, All-nil, All-cons}
+use Rattle.std.proofs.lemmas.List.Elements.{All-head, All-tail, All-nil, All-cons, All-weaker}
 use Rattle.std.specs.List.{AllByRecursion}
 use Rattle.bridge_io.proofs.AndThen.{steps_of}
 use Rattle.url_parts.specs.declared.address.Part.{Part}
@@ -11,7 +11,7 @@ use Rattle.hls_follow.specs.{Groups.{group_at, row_at, row_end}, Periods.{end_of
 use Rattle.hls_follow.specs.Periods.{period_of, periods_from, run_of, runs_of, within_limit}
 use Rattle.hls_follow.proofs.Listing.{listed_map}
 use Rattle.laws_of_mpds.proofs.ReadPlain.{map_own, range_readable}
-use Rattle.laws_of_mpds.specs.{Contents.IsOwnPart, Live.{IsReadablePeriod, IsReadableRun}, Told.IsShort}
+use Rattle.laws_of_mpds.specs.{Contents.IsOwnPart, Live.{IsReadablePeriod, IsReadableRun, durations_in}, Told.IsShort}
 use Rattle.laws_of_jobs.proofs.Segments.{IsReadRow, IsReadSegment, TimedSegment, section_read}
 
 -- ---- what a track has in a section
@@ -35,33 +35,47 @@ short_durations (t ∷ group) all =
     let bounded = (All-head IsReadSegment t group all).plain.bounded.duration in
     (omega (arith, bounded), short_durations group (All-tail IsReadSegment t group all))
 
-run_read : (group : List TimedSegment) (run : LiveRun) → IsReadRow 100_000 group → run_of group ≡ Ok run → IsReadableRun run
+all_last : (group : List TimedSegment) → All IsReadSegment group
+    → AllByRecursion (λ d. 0 < d) (map (λ (segment : LiveSegment). segment.duration) (live_segments group))
+all_last [] all = tt
+all_last (t ∷ group) all =
+    ((All-head IsReadSegment t group all).lasting, all_last group (All-tail IsReadSegment t group all))
+
+-- a run that can be read, of which each segment lasts
+pub record IsReadRun (run : LiveRun) : Type 0 where
+  pub readable : IsReadableRun run
+  pub lasting : AllByRecursion (λ d. 0 < d) (durations_in run)
+
+run_read : (group : List TimedSegment) (run : LiveRun) → IsReadRow 100_000 group → run_of group ≡ Ok run → IsReadRun run
 run_read [] run read is = absurd (cc)
 run_read (t ∷ group) run read is =
     let x = steps_of (initialization_in t.segment.map) _ run is in
     let same : record { initialization = x.value; segments = live_segments (t ∷ group) } ≡ run = (let h = x.then in cc) in
     let first = All-head IsReadSegment t group read.all in
     let own = map_own t.segment.map first.plain.bounded.map first.plain.addresses.initialization in
-    subst IsReadableRun same (record {
-      initialization = subst (λ (part : Option Part). IfSome part IsOwnPart) (listed_map x.value t.segment.map x.first) own;
-      parts = own_files (t ∷ group) read.all;
-      durations = short_durations (t ∷ group) read.all;
-      first = omega (arith, first.early);
-      few = omega (arith, read.few, as_many (t ∷ group));
+    subst IsReadRun same (record {
+      readable = record {
+        initialization = subst (λ (part : Option Part). IfSome part IsOwnPart) (listed_map x.value t.segment.map x.first) own;
+        parts = own_files (t ∷ group) read.all;
+        durations = short_durations (t ∷ group) read.all;
+        first = omega (arith, first.early);
+        few = omega (arith, read.few, as_many (t ∷ group));
+      };
+      lasting = all_last (t ∷ group) read.all;
     })
 
 -- each track has something there
 runs_read : (row : List (List TimedSegment)) (runs : List LiveRun) → All (IsReadRow 100_000) row → runs_of row ≡ Ok runs
-    → (length runs ≡ length row) × All IsReadableRun runs
+    → (length runs ≡ length row) × All IsReadRun runs
 runs_read [] runs read is =
-    (let none : [] ≡ runs = cc in (ap length (sym none), subst (All IsReadableRun) none (All-nil IsReadableRun)))
+    (let none : [] ≡ runs = cc in (ap length (sym none), subst (All IsReadRun) none (All-nil IsReadRun)))
 runs_read (group ∷ row) runs read is =
     let x = steps_of (run_of group) _ runs is in
     let y = steps_of (runs_of row) _ runs x.then in
     let whole : x.value ∷ y.value ≡ runs = (let h = y.then in cc) in
     let others = runs_read row y.value (All-tail (IsReadRow 100_000) group row read) y.first in (
       ap length (sym whole) ∙ ap suc others.0,
-      subst (All IsReadableRun) whole (All-cons IsReadableRun x.value y.value
+      subst (All IsReadRun) whole (All-cons IsReadRun x.value y.value
           (run_read group x.value (All-head (IsReadRow 100_000) group row read) x.first) others.1),
     )
 
@@ -84,8 +98,13 @@ early number known former longest =
 
 -- so many tracks have something there
 pub record IsReadPeriod (count : ℕ) (period : LivePeriod) : Type 0 where
-  pub readable : IsReadablePeriod period
+  pub start : period.start < 10 ^ 19
+  pub runs : All IsReadRun period.runs
   pub filled : length period.runs ≡ count
+
+pub readable_period : (count : ℕ) (period : LivePeriod) → IsReadPeriod count period → IsReadablePeriod period
+readable_period count period is =
+    record { start = is.start; runs = All-weaker IsReadRun IsReadableRun (λ run read. read.readable) period.runs is.runs }
 
 period_read : (known : List LivePeriod) (former number : ℕ) (row : List (List TimedSegment)) (period : LivePeriod)
     → All (IsReadRow 100_000) row → period_of known former number row ≡ Ok period → IsReadPeriod (length row) period
@@ -98,7 +117,8 @@ period_read known former number row period read is =
     let start : x.value.start < 10 ^ 19 = subst (λ extent. IfOk extent (λ e. e.start < 10 ^ 19)) x.first
     (early number known former (row_end row)) in
     subst (IsReadPeriod (length row)) same (record {
-      readable = record { start = start; runs = runs.1 };
+      start = start;
+      runs = runs.1;
       filled = runs.0;
     })
 

@@ -17,7 +17,7 @@ use Rattle.bridge_reach.specs.{DashTimes.{run_of, runs_of}, Promises.starts_from
 use Rattle.bridge_reach.proofs.{Counted.{can_be_timed, ticked_at}, Places.length_each, Runs.run_at, Stated.{are_filled, stated_at}}
 use Rattle.laws_of_mpds.specs.{Written.{ReadAreInOrder, ReadCanBeTold}, Timed.{AreTimesOf, TimedTextsAreRead, TimedTextsMean}}
 use Rattle.laws_of_mpds.proofs.Whole.{can_be_written}
-use Rattle.laws_of_jobs.specs.Timed.{AreOfBytes, TimedAreRead, TimedCanBeRead, TimedMeanTheirTimes}
+use Rattle.laws_of_jobs.specs.Timed.{TimedAreRead, TimedCanBeRead, TimedMeanTheirTimes}
 use Rattle.laws_of_jobs.proofs.{Lasting.{AreLasting, rows_last}, Scales.{IsScale, scale_is}}
 
 -- ---- timescales
@@ -25,7 +25,7 @@ use Rattle.laws_of_jobs.proofs.{Lasting.{AreLasting, rows_last}, Scales.{IsScale
 abbrev HasScale : SegmentTimes → Type 0
 HasScale times = IsScale times.scale
 
-module _ (folder : List ℕ) (files : Files) (p : Presented) (of_bytes : AreOfBytes files) where
+module _ (folder : List ℕ) (files : Files) (p : Presented) where
   own_scaled : (s : ℕ) (content : Option Content) (own : SegmentTimes)
       → option_map_or (content_times folder files (window_of p s)) content (Ok (times_with 1 [])) ≡ Ok own → HasScale own
   own_scaled s None own is =
@@ -35,7 +35,7 @@ module _ (folder : List ℕ) (files : Files) (p : Presented) (of_bytes : AreOfBy
       let starts = steps_of (all_starts folder files (parts_of content.runs (listed_in (window_of p s) content.runs)))
       (λ starts. Ok (times_with scale.value starts)) own scale.then in
       let same : times_with scale.value starts.value ≡ own = (let e = starts.then in cc) in
-      subst HasScale same (scale_is folder files content.initialization scale.value of_bytes scale.first)
+      subst HasScale same (scale_is folder files content.initialization scale.value scale.first)
 
   track_scaled : (s t : ℕ) (one : List SegmentTimes) → alone (times_at folder files p s t) ≡ Ok one → All HasScale one
   unfolding times_at
@@ -108,7 +108,7 @@ module _ (folder : List ℕ) (files : Files) (p : Presented) (times : List Segme
 pub can_be_read : ReadAreSilent → TimedCanBeRead
 can_be_read quiet master url tracks medias folder files p times rows have =
     let from = came tracks medias p have.presented (quiet master url tracks have.read) in
-    let scaled = all_scaled folder files p have.of_bytes times have.stated in
+    let scaled = all_scaled folder files p times have.stated in
     record {
       can = can_be_timed p times rows (are_filled folder files p times have.stated) from (λ i d within. (scaled i d within).positive)
           have.lasting;

@@ -4,5 +4,8 @@ pub mod Files
 pub mod Followed
 pub mod Frames
 pub mod Histories
+pub mod LiveLists
+pub mod RoundRuns
 pub mod Rounds
 pub mod Timed
+pub mod TimedRuns

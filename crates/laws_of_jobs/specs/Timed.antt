@@ -1,5 +1,5 @@
 -- What is read of an MPD that is written of playlists with the times of their media files.
-use Rattle.std.specs.{Prelude.{◌≡◌, ◌<◌, ℕ, ℤ, List, map, All, Option, Some, option_map, Ok}, Result.result_ok}
+use Rattle.std.specs.{Prelude.{◌≡◌, ℕ, ℤ, List, map, All, Option, Some, option_map, Ok}, Result.result_ok}
 use Rattle.bridge_io.specs.Outside.{Files}
 use Rattle.mpd_tree.specs.Meaning.{reading_of}
 use Rattle.mpd_rules.specs.Rules.{dash_values}
@@ -13,9 +13,6 @@ use Rattle.dash_writer.specs.Timed.{timed_text}
 use Rattle.bridge_reach.specs.DashTimes.{runs_of}
 use Rattle.laws_of_mpds.specs.{Shown.shown_of, Timed.{IsTimed, timed_as, timed_shown}, Written.HaveAddresses}
 
-abbrev pub AreOfBytes : Files → Type 0
-AreOfBytes files = (name bytes : List ℕ) → files name ≡ Some bytes → All (λ b. b < 256) bytes
-
 -- A master and playlists like those that are read are presented, and their media files, whose folder has a URL, state times.
 pub record HaveTimes (master url : List ℕ) (tracks : List MasterTrack) (medias : List Media) (folder : List ℕ) (files : Files)
     (p : Presented) (times : List SegmentTimes) (rows : List (List ℕ)) : Type 0 where
@@ -23,7 +20,6 @@ pub record HaveTimes (master url : List ℕ) (tracks : List MasterTrack) (medias
   pub bounded : All IsBounded medias
   pub addresses : All HaveAddresses medias
   pub presented : hls_presented_of tracks medias ≡ Ok p
-  pub of_bytes : AreOfBytes files
   pub stated : times_of folder files p ≡ Ok times
   pub lasting : durations_of p times ≡ Ok rows
 

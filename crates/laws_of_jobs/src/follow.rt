@@ -1,6 +1,6 @@
 //! Laws of runs that follow an MPD. The functions do nothing: what they ensure is the law.
 ghost use Rattle.laws_of_jobs.specs.Counts.{FollowCountsSegments};
-ghost use Rattle.laws_of_jobs.specs.Ends.{FollowLeavesHistory, FollowedToAFault, FollowedToTheEnd};
+ghost use Rattle.laws_of_jobs.specs.Ends.{FollowLeavesHistory};
 ghost use Rattle.laws_of_jobs.specs.Files.{FollowedFilesAreOfTheHistory, FollowedFilesReload};
 ghost use Rattle.laws_of_jobs.specs.Frames.{FramesAreOfTheHistory};
 ghost use Rattle.laws_of_jobs.specs.Histories.{FollowedNeverDrift};
@@ -43,9 +43,7 @@ pub fn followed_files_reload()
 /// was begun, or all. Where it is done, or its stream is refused, they are those of all frames; where a read of the input
 /// failed, those of some first frames alone.
 pub fn a_followed_execution_leaves_its_history()
-    ensures ends { FollowLeavesHistory }
-    ensures verdict { FollowedToTheEnd }
-    ensures read_fault { FollowedToAFault }
+    ensures { FollowLeavesHistory }
 {
     followed_files_are_of_the_history();
     an_execution_leaves_its_steps();

@@ -4,10 +4,17 @@
 
 mod follow;
 mod mpds;
+mod rounds;
 
 pub use follow::{
     a_followed_execution_counts_its_segments, a_followed_execution_leaves_its_history,
     followed_durations_never_drift, followed_files_are_of_the_history, followed_files_reload,
     frames_are_judged_by_the_history,
 };
-pub use mpds::{followed_mpds_are_read, listed_segments_stay, timed_mpds_mean_their_times};
+pub use mpds::{
+    followed_mpds_are_read, timed_mpds_mean_their_times, what_is_timed_means_the_playlists,
+};
+pub use rounds::{
+    a_followed_hls_execution_leaves_its_history, followed_mpd_files_are_of_the_history,
+    followed_runs_are_read, last_playlists_are_meant, listed_segments_stay,
+};

@@ -1,15 +1,17 @@
 //! Laws of MPDs that are written of playlists that are read. The functions do nothing: what they ensure is the law.
 ghost use Rattle.laws_of_jobs.specs.Followed.{FollowedAreRead, FollowedCanBeRead};
-ghost use Rattle.laws_of_jobs.specs.Rounds.{LeftIsOfTheHistory, ListedSegmentsStay};
 ghost use Rattle.laws_of_jobs.specs.Timed.{TimedAreRead, TimedCanBeRead, TimedMeanTheirTimes};
+ghost use Rattle.laws_of_jobs.specs.TimedRuns.{WrittenHasPlaylistsAndTimes};
 
-use hls_follow::segments_stay;
+use bridge_courses::{a_verdict_keeps_the_steps, done_is_whole};
 use hls_media::what_is_read_is_bounded;
 use hls_presentation::what_is_read_is_silent;
 use laws_of_mpds::{
-    live_texts_are_read, read_tracks_can_be_written, timed_texts_are_read,
-    timed_texts_mean_their_times,
+    live_texts_are_read, presented_mean_their_files, read_tracks_can_be_written,
+    timed_presentations_keep_their_files, timed_texts_are_read, timed_texts_mean_their_times,
+    what_is_read_has_addresses,
 };
+use laws_of_playlists::read_trees_are_of_bytes;
 
 /// After every list of accepted rounds, from the first on, the text of the live MPD says what the MPD says, where the master was
 /// read, the rounds are at instants that can be read, and their playlists are bounded and have addresses as those that are read
@@ -41,12 +43,21 @@ pub fn timed_mpds_mean_their_times()
     what_is_read_is_silent();
 }
 
-/// Over every stream of rounds the MPD is that of the whole history of accepted rounds, and a segment that a later accepted round
-/// lists again stays in it as it was: its time, and the id and the start of its Period (ISO/IEC 23009-1, 5.3.2 and 5.3.9.6).
-pub fn listed_segments_stay()
-    ensures history { LeftIsOfTheHistory }
-    ensures stay { ListedSegmentsStay }
+/// Where a run of `dash-times` is done, the MPD that it wrote means, at any URL and instant, the tracks, initialization parts,
+/// addresses and ranges that the master and its playlists mean, in their order. Of each track in each section a segment begins at the
+/// decode time that its own file states less that of the first one, in the timescale that the initialization part states, and ends
+/// when the next one begins (RFC 8216, 4.3; ISO/IEC 23009-1, 5.3; ISO/IEC 14496-12, 8.4.2 and 8.8.12).
+pub fn what_is_timed_means_the_playlists()
+    ensures { WrittenHasPlaylistsAndTimes }
 {
+    done_is_whole();
+    a_verdict_keeps_the_steps();
+    read_trees_are_of_bytes();
+    read_tracks_can_be_written();
+    what_is_read_has_addresses();
+    presented_mean_their_files();
     what_is_read_is_bounded();
-    segments_stay();
+    what_is_read_is_silent();
+    timed_texts_mean_their_times();
+    timed_presentations_keep_their_files();
 }

@@ -77,7 +77,7 @@ same_entries initialization tl other n m (x ∷ xs) same = ap (λ segments. Some
 
 -- ---- a content
 
-listed_from : (from : ℕ) (c : Content) (plain : IsPlainFrom from c)
+pub listed_from : (from : ℕ) (c : Content) (plain : IsPlainFrom from c)
     → listed_in whole_window c.runs ≡ numbered c.runs.first_number (in_row c.runs.ticks from plain.durations)
 listed_from from c plain = rw (plain.members, extents_closed _ (in_row c.runs.ticks from plain.durations))
     (all_listed c.runs.ticks from c.runs.first_number plain.durations plain.positive plain.lasting)

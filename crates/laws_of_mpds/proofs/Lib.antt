@@ -1,6 +1,7 @@
 pub mod Addressed
 pub mod Bytes
 pub mod Contents
+pub mod Entries
 pub mod Fine
 pub mod Given
 pub mod Legal
@@ -28,6 +29,7 @@ pub mod Sets
 pub mod Shown
 pub mod Texts
 pub mod Timed
+pub mod TimedEntries
 pub mod Times
 pub mod TrackAddresses
 pub mod Views

@@ -63,7 +63,7 @@ at_from h from (suc count) zero within = (let plain : from ≡ from + 0 = omega 
 at_from h from (suc count) (suc k) within = at_from h (from + 1) count k (omega (arith, within))
     ∙ (let moved : (from + 1) + k ≡ from + suc k = omega arith in ap (λ n. Some (h n)) moved)
 
-at_place : {Y : Type 0} (h : ℕ → Y) (count k : ℕ) → k < count → slice_get (map h (range_with_len 0 count)) k ≡ Some (h k)
+pub at_place : {Y : Type 0} (h : ℕ → Y) (count k : ℕ) → k < count → slice_get (map h (range_with_len 0 count)) k ≡ Some (h k)
 at_place h count k within = at_from h 0 count k within ∙ (let plain : 0 + k ≡ k = omega arith in ap (λ n. Some (h n)) plain)
 
 any_first : {Y : Type 0} (h : ℕ → Option Y) (count : ℕ) → 0 < count → is_some (h 0) ≡ true

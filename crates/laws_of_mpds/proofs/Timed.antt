@@ -39,16 +39,16 @@ few_short (d ∷ ds) lasting =
 
 -- ---- what a track has in a section
 
-record HasRun (p : Presented) (times : List TickRun) (s k : ℕ) : Type 0 where
-  content : Content
-  run : TickRun
-  there : content_at p s k ≡ Some content
-  timed : slice_get times (s * length p.tracks + k) ≡ Some run
-  plain : IsPlain content
-  times_of : AreTimesOf content run
-  counted : CanBeCounted run
+pub record HasRun (p : Presented) (times : List TickRun) (s k : ℕ) : Type 0 where
+  pub content : Content
+  pub run : TickRun
+  pub there : content_at p s k ≡ Some content
+  pub timed : slice_get times (s * length p.tracks + k) ≡ Some run
+  pub plain : IsPlain content
+  pub times_of : AreTimesOf content run
+  pub counted : CanBeCounted run
 
-has_run : (p : Presented) (times : List TickRun) (s k : ℕ) → IsWritable p → IsTimed p times → s < length p.sections → k < length p.tracks
+pub has_run : (p : Presented) (times : List TickRun) (s k : ℕ) → IsWritable p → IsTimed p times → s < length p.sections → k < length p.tracks
     → HasRun p times s k
 has_run p times s k w t in_sections in_tracks =
     let has : HasPlain p s k = has_plain p s k w in_sections in_tracks in
@@ -81,7 +81,7 @@ module _ (p : Presented) (times : List TickRun) (s k : ℕ) (finished : p.follow
       ap (option_and_then (λ (c : Content). option_map (run_told c) (slice_get times i))) h.there
       ∙ ap (option_map (run_told h.content)) h.timed
 
-  own_files : AllByRecursion IsOwnPart (files_of h.content)
+  pub own_files : AllByRecursion IsOwnPart (files_of h.content)
   own_files = subst (AllByRecursion IsOwnPart) (sym (parts_are h.content h.plain)) h.plain.own
 
   has_list : Has (timed_lists p times s) (told_in p times s) k
@@ -117,7 +117,7 @@ module _ (p : Presented) (times : List TickRun) (s k : ℕ) (finished : p.follow
   )
 
   -- the content with these times
-  abbrev from_first : IsPlainFrom 0 (content_with h.content h.run)
+  abbrev pub from_first : IsPlainFrom 0 (content_with h.content h.run)
   from_first = record {
     parts = files_of h.content;
     durations = h.run.durations;
@@ -131,7 +131,7 @@ module _ (p : Presented) (times : List TickRun) (s k : ℕ) (finished : p.follow
   }
 
 -- contents with times, by their places
-content_is : (contents : List Content) (times : List TickRun) (i : ℕ) (c : Content) (run : TickRun) → slice_get contents i ≡ Some c
+pub content_is : (contents : List Content) (times : List TickRun) (i : ℕ) (c : Content) (run : TickRun) → slice_get contents i ≡ Some c
     → slice_get times i ≡ Some run → slice_get (contents_with contents times) i ≡ Some (content_with c run)
 content_is [] times i c run one two = absurd (cc)
 content_is (x ∷ contents) [] i c run one two = absurd (cc)
@@ -170,7 +170,7 @@ sections_count : (start : ℕ) (ns : List ℕ) → length (sections_from start n
 sections_count start [] = refl
 sections_count start (n ∷ ns) = ap suc (sections_count (start + n) ns)
 
-as_many : (p : Presented) (times : List TickRun) → length (timed_sections p times) ≡ length p.sections
+pub as_many : (p : Presented) (times : List TickRun) → length (timed_sections p times) ≡ length p.sections
 as_many p times = sections_count 0 (lengths (length p.tracks) (length p.sections) times)
     ∙ lengths_count (length p.tracks) (length p.sections) times
 

@@ -1,13 +1,14 @@
 -- What the text of an MPD with the times of its files means.
 use Rattle.std.specs.Prelude.{◌≡◌, ℕ, ◌+◌, ◌*◌, ◌<◌, ℤ, false, List, [], ◌∷◌, All, length, map, slice_get, decimal, Option, Some, None}
-use Rattle.std.specs.{Prelude.{option_map, option_and_then}, List.AllByRecursion, Result.result_ok}
+use Rattle.std.specs.{Prelude.{option_map, option_and_then, IfSome}, List.AllByRecursion, Result.result_ok}
 use Rattle.url_parts.specs.declared.address.Part.{Part}
-use Rattle.timeline.specs.{declared.names.Names.TheVariants.Addresses, Expansions.Closed}
+use Rattle.meaning.specs.{Meanings.{Entry, Meaning, Segment, Track}, Same.Same}
+use Rattle.timeline.specs.{declared.names.Names.TheVariants.Addresses, Expansions.{Closed, Extent}}
 use Rattle.mpd_tree.specs.Meaning.{reading_of}
 use Rattle.mpd_levels.specs.Segments.{Segments}
 use Rattle.mpd_rules.specs.Rules.{dash_values}
 use Rattle.presentation.specs.{declared.parts.Content.Content, declared.track.Section.Section}
-use Rattle.presentation.specs.{Presented.{Presented, content_at, listed_in, whole_window}, Meanings.meaning_of}
+use Rattle.presentation.specs.{Presented.{Presented, content_at, listed_in, whole_window}, Meanings.{entry_at, meaning_of, part_meant}}
 use Rattle.mpd_presentation.specs.Meanings.{dash_meaning}
 use Rattle.dash_writer.specs.{Lists.parts_of, Timed.{CanBeTimed, timed_sections, timed_text}, declared.timed.TickRun.TickRun}
 use Rattle.laws_of_mpds.specs.{Meant.IsWritable, Rows.in_row, Shown.{Shown, shown_of, shown_periods}, Texts.IsTellable}
@@ -57,6 +58,46 @@ pub record IsTimed (p : Presented) (times : List TickRun) : Type 0 where
 abbrev pub TimedTextsMean : Type 0
 TimedTextsMean = (p : Presented) (times : List TickRun) (url : List ℕ) (now : Option ℤ) → IsWritable p → All IsTellable p.tracks
     → IsTimed p times → dash_meaning (timed_text p times) url now ≡ Some (meaning_of (timed_as p times))
+
+-- ---- what stays, and what changes
+
+-- the same tracks, initialization parts, addresses and ranges in their order, at any times
+abbrev pub SameButTimes : Meaning → Meaning → Type 0
+SameButTimes a b = Same (λ x y. Unit {0}) a b
+
+abbrev pub TimedKeepTheirFiles : Type 0
+TimedKeepTheirFiles = (p : Presented) (times : List TickRun) → IsWritable p → IsTimed p times
+    → SameButTimes (meaning_of p) (meaning_of (timed_as p times))
+
+-- the files of a content's segments
+abbrev pub meant_parts : Content → List Part
+meant_parts c = map (part_meant c.runs) (listed_in whole_window c.runs)
+
+-- what is so of each track in each section in which it has something
+abbrev pub EachEntry : (Entry → Type 0) → Meaning → Type 0
+EachEntry Of m = All (λ (track : Track). All (λ (entry : Option Entry). IfSome entry Of) track.entries) m.tracks
+
+-- each segment ends when the next one begins
+abbrev pub AreJoined : List Segment → Type 0
+AreJoined [] = Unit {0}
+AreJoined (x ∷ []) = Unit {0}
+AreJoined (x ∷ y ∷ later) = (x.end ≡ y.start) × AreJoined (y ∷ later)
+
+-- the files of a track in a section, of which each begins where the one before it ends, and the first one with the section
+pub record AreFilesOf (p : Presented) (times : List TickRun) (section place : ℕ) (entry : Entry) : Type 0 where
+  pub content : Content
+  pub there : content_at p section place ≡ Some content
+  pub run : TickRun
+  pub timed : slice_get times (section * length p.tracks + place) ≡ Some run
+  pub initialization : entry.initialization ≡ content.initialization
+  pub parts : map (λ (x : Segment). x.part) entry.segments ≡ meant_parts content
+  pub starts : map (λ (x : Segment). x.start) entry.segments ≡ map (λ (x : Extent). x.start) (in_row run.scale 0 run.durations)
+  pub joined : AreJoined entry.segments
+
+abbrev pub TimedBeginInRow : Type 0
+TimedBeginInRow = (p : Presented) (times : List TickRun) (section place : ℕ) → IsWritable p → IsTimed p times
+    → section < length p.sections → place < length p.tracks
+    → IfSome (entry_at (timed_as p times) section place) (AreFilesOf p times section place)
 
 -- ---- the lists that are read
 

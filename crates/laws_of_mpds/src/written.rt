@@ -4,7 +4,7 @@ ghost use Rattle.laws_of_mpds.specs.Contents.{ContentsAreMeant, TimedContentsAre
 ghost use Rattle.laws_of_mpds.specs.Live.{LiveTextsAreRead};
 ghost use Rattle.laws_of_mpds.specs.Meant.{TreesMean};
 ghost use Rattle.laws_of_mpds.specs.Texts.{TextsMean};
-ghost use Rattle.laws_of_mpds.specs.Timed.{TimedTextsAreRead, TimedTextsMean};
+ghost use Rattle.laws_of_mpds.specs.Timed.{TimedBeginInRow, TimedKeepTheirFiles, TimedTextsAreRead, TimedTextsMean};
 
 use iso_time::laws::{durations_are_read_again, instants_are_read_again};
 use mpd_tree::printed_trees_are_read;
@@ -57,6 +57,13 @@ pub fn timed_texts_mean_their_times()
 {
     printed_trees_are_read();
 }
+
+/// By the times of its files a presentation means the same tracks, initialization parts, addresses and ranges in their order as
+/// before, and of each track in each section the segments begin one behind another, the first one with the section.
+pub fn timed_presentations_keep_their_files()
+    ensures files { TimedKeepTheirFiles }
+    ensures begin { TimedBeginInRow }
+{}
 
 /// Of each track in each section it says the scale, the media time of the section's start, which is that of the first segment, and
 /// each one's duration, address and range, with the initialization part; of each section when it begins.

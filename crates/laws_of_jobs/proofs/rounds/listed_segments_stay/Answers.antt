@@ -1,5 +1,5 @@
 use Rattle.laws_of_jobs.proofs.History as history
-use Rattle.laws_of_jobs.proofs.mpds.listed_segments_stay.Goals as goal
+use Rattle.laws_of_jobs.proofs.rounds.listed_segments_stay.Goals as goal
 
 pub returns-clause-history : goal.returns-clause-history
 returns-clause-history c = history.left_is c.what_is_read_is_bounded.ensures

@@ -1,0 +1,50 @@
+-- What the lists of the MPD of a run of `follow-hls` mean.
+use Rattle.std.specs.Prelude.{◌≡◌, ℕ, ◌+◌, ◌^◌, List, [], ◌∷◌, map, All, slice_get, Option, Some, None}
+use Rattle.bridge_io.specs.Outside.{Files}
+use Rattle.exact_time.specs.Time.{in_units}
+use Rattle.url_parts.specs.declared.address.Part.{Part}
+use Rattle.meaning.specs.Meanings.{Entry, Segment}
+use Rattle.timeline.specs.declared.entry.End.{End}
+use Rattle.mpd_rules.specs.declared.rows.Description.{Description}
+use Rattle.presentation.specs.{Meanings.entry_of, Presented.whole_window}
+use Rattle.mpd_presentation.specs.Meanings.{content_meant}
+use Rattle.hls_master.specs.declared.track.MasterTrack.{MasterTrack}
+use Rattle.dash_writer.specs.{Live.part_of, declared.live.LivePeriod.LivePeriod, declared.live.LiveRun.LiveRun}
+use Rattle.dash_writer.specs.declared.live.LiveSegment.{LiveSegment}
+use Rattle.hls_follow.specs.{Listed.ListsTrack, declared.state.Followed.Followed, declared.state.FollowedTrack.FollowedTrack}
+use Rattle.laws_of_mpds.specs.Live.{live_told}
+use Rattle.bridge_jobs.specs.declared.jobs.MasterJob.{MasterJob}
+use Rattle.bridge_courses.specs.Courses.{Course}
+use Rattle.bridge_reach.specs.RoundLaws.{left_by}
+use Rattle.laws_of_jobs.specs.RoundRuns.{IsFollowingRounds}
+
+-- ---- a list
+
+-- a listed segment, from its Period's start, in nanoseconds
+abbrev pub segment_of : LiveSegment → Segment
+segment_of s = record { part = part_of s; start = in_units (10 ^ 9) s.time; end = in_units (10 ^ 9) (s.time + s.duration) }
+
+abbrev pub entry_with : Part → List LiveSegment → Option Entry
+entry_with initialization [] = None
+entry_with initialization (s ∷ segments) = Some (record { initialization = initialization; segments = map segment_of (s ∷ segments) })
+
+-- The list of a run means its segments, each with its file, its time and its duration, at any URL of the MPD and any end of the Period,
+-- without the filter by an instant (ISO/IEC 23009-1, 5.3.9). The MPD has no BaseURL.
+abbrev pub ListMeans : LiveRun → Type 0
+ListMeans run = (url : List ℕ) (end : End) (d : Description) → d.bases ≡ []
+    → entry_of whole_window (content_meant url end d (live_told run)) ≡ entry_with run.initialization run.segments
+
+-- ---- a run
+
+-- The lists of the MPD mean their segments, and those of each kept track are the segments of its last playlist, in their order, with
+-- their initialization parts, addresses, ranges, durations and times.
+pub record ListsAreOfPlaylists (followed : Followed) : Type 0 where
+  pub mean : All (λ (period : LivePeriod). All ListMeans period.runs) followed.mpd.periods
+  pub listed : (place : ℕ) (track : FollowedTrack) → slice_get followed.tracks place ≡ Some track
+      → ListsTrack followed place track
+
+abbrev pub LastPlaylistsAreMeant : Type 0
+LastPlaylistsAreMeant =
+    (words : List (List ℕ)) (job : MasterJob) (files : Files) (tracks : List MasterTrack) (input : List ℕ) (course : Course) (n : ℕ)
+    (followed : Followed) → IsFollowingRounds words job files tracks input course
+    → (left_by job.out tracks input n).follow.followed ≡ Some followed → ListsAreOfPlaylists followed
