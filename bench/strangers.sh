@@ -1,8 +1,9 @@
 #!/usr/bin/env bash
 # Runs the bridge on files of up to 8 MB as a stranger may make them, each with as many of one thing as fit: variants, renditions, Periods,
 # S that thousands of Representations share, SegmentURLs. The longest of three runs counts, with its largest memory. Each is to be answered
-# within 5 seconds and 600 MB. Then `bridge follow` and `bridge follow-hls` of streams as a stranger may make them: each frame and each
-# round within 5 seconds, and the run within 1,200 MB.
+# within 5 seconds and 600 MB. Then MPDs with long texts of which an address keeps little, within 2 seconds and 200 MB, and ones whose names
+# are longer than any address, within 2 seconds and 100 MB. Then `bridge follow` and `bridge follow-hls` of streams as a stranger may make
+# them: each frame and each round within 5 seconds, and the run within 1,200 MB.
 #
 # It wants `rt` and python3, and proves the program first where that isn't kept.
 set -euo pipefail
@@ -51,13 +52,59 @@ rows = [
     ("hls", mpd("list.mpd", set_of(['<SegmentList duration="1"><Initialization sourceURL="i"/>', *['<SegmentURL media="s"/>'] * 330_000, "</SegmentList>"], 9_000),
                 ' mediaPresentationDuration="PT330000S"'), BASE, "330,000 SegmentURLs that 9,000 Representations share"),
 ]
-print("| file | MB | answer | s | MB of memory |\n|---|---|---|---|---|")
-for command, name, base, what in rows:
-    size = os.path.getsize(name)
-    assert size <= 8_388_608, (name, size)
-    seconds, megabytes, answer = answers([bridge, command, name, f"--base={base}"])
-    print(f"| {what} | {size / 1e6:.1f} | `{answer}` | {seconds:.2f} | {megabytes:.0f} |")
-    assert seconds <= 5 and megabytes <= 600, what
+
+def lasting(seconds):
+    return f' mediaPresentationDuration="PT{seconds}S"'
+
+def template(media, initialization="i"):
+    return f'<SegmentTemplate duration="1" initialization="{initialization}" media="{media}"/>'
+
+def named(name, media, identity="0"):
+    """100,000 segments of one Representation."""
+    return mpd(name, ['<Period><AdaptationSet mimeType="video/mp4">', template(media), f'<Representation id="{identity}" bandwidth="1"/>',
+                      "</AdaptationSet></Period>"], lasting(100_000))
+
+def under(name, periods, tracks, bases, inside):
+    """Periods of 1 s, with a BaseURL at the MPD, at each Period and at each set, where there is one."""
+    url = ["<BaseURL>" + base + "</BaseURL>" if base else "" for base in bases]
+    period = '<Period duration="PT1S">' + url[1] + '<AdaptationSet mimeType="video/mp4">' + url[2] + inside + "".join(
+        f'<Representation id="{k}" bandwidth="1"/>' for k in range(tracks)) + "</AdaptationSet></Period>"
+    return mpd(name, [url[0], *[period] * periods])
+
+UP = "a/../"
+long = [
+    ("hls", named("bandwidths.mpd", "$Number$" + "$Bandwidth$" * 1_800), BASE, "1,800 `$Bandwidth$` in a name, 100,000 segments"),
+    ("hls", named("empty.mpd", "$RepresentationID$" * 8_000 + "$Number$", ""), BASE,
+     "8,000 `$RepresentationID$` of no byte, 100,000 segments"),
+    ("hls", named("empties.mpd", "$RepresentationID$" * 430_000 + "$Number$", ""), BASE, "430,000 of them"),
+    ("hls", named("up.mpd", UP * 15_800 + "$Number$"), BASE, "15,800 `a/../` in a template, 100,000 segments"),
+    ("hls", under("initialization.mpd", 1, 200, ("", "", ""), template("$Number$", UP * 1_580_000 + "i")), BASE,
+     "an initialization address of 7.9 MB of `a/../`, 200 Representations"),
+    ("hls", under("base.mpd", 1, 200, (UP * 1_580_000, "", ""), template("$Number$")), BASE,
+     "a BaseURL of 7.9 MB of `a/../`, 200 Representations"),
+    ("hls", under("encoded.mpd", 1, 200, ("a/%2e%2e/" * 870_000, "", ""), template("$Number$")), BASE,
+     "one of 7.8 MB of `a/%2e%2e/`"),
+    ("hls", under("levels.mpd", 995, 190, (UP * 400, UP * 74, UP * 74), template("$Number$")), BASE,
+     "995 Periods of 190 Representations, below BaseURLs at three levels"),
+]
+short = [
+    ("hls", under("dollars.mpd", 1, 200, ("", "", ""), template("$$" * 250_000 + "$Number$")), BASE,
+     "250,000 `$$` in a template that 200 Representations share"),
+]
+
+def judge(rows, most_seconds, most_megabytes):
+    print("| file | MB | answer | s | MB of memory |\n|---|---|---|---|---|")
+    for command, name, base, what in rows:
+        size = os.path.getsize(name)
+        assert size <= 8_388_608, (name, size)
+        seconds, megabytes, answer = answers([bridge, command, name, f"--base={base}"])
+        print(f"| {what} | {size / 1e6:.1f} | `{answer}` | {seconds:.2f} | {megabytes:.0f} |", flush=True)
+        assert seconds <= most_seconds and megabytes <= most_megabytes, what
+    print()
+
+judge(rows, 5, 600)
+judge(long, 2, 200)
+judge(short, 2, 100)
 
 START = datetime.datetime(2024, 1, 1)
 LIVE = '<MPD xmlns="urn:mpeg:dash:schema:mpd:2011" type="dynamic" availabilityStartTime="2024-01-01T00:00:00Z"{}>{}</MPD>'
@@ -132,7 +179,7 @@ hls = [
 ]
 streams = [(name, ["follow", "live.mpd"], base, what) for name, base, what in streams]
 streams += [(name, ["follow-hls", master], BASE, what) for name, master, what in hls]
-print("\n| stream | MB | last line | s, the longest frame | MB of memory |\n|---|---|---|---|---|")
+print("| stream | MB | last line | s, the longest frame | MB of memory |\n|---|---|---|---|---|")
 for name, words, base, what in streams:
     seconds, megabytes, last = framed(name, [bridge, *words, f"--base={base}"])
     print(f"| {what} | {os.path.getsize(name) / 1e6:.1f} | `{last}` | {seconds:.2f} | {megabytes:.0f} |")

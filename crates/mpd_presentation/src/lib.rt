@@ -3,6 +3,7 @@
 
 mod checks;
 mod described;
+mod former;
 mod laws;
 mod lineup;
 mod manifest;

@@ -10,6 +10,7 @@ ghost use Rattle.mpd_presentation.specs.Told as spec;
 
 use crate::checks::check;
 use crate::described::{length_of, sections_of, tracks_of};
+use crate::former::Former;
 use crate::lineup::rows_in_order;
 use crate::shared::Shared;
 use crate::told::{PeriodContent, Setting};
@@ -146,8 +147,9 @@ impl Setting<'_> {
         ensures { Gives (λ tolds. tolds.items) refusal result (spec.all_told self.now.base.now self.now.live (all_left periods.entry)) }
     {
         let mut tolds = Vec::new(alloc);
+        let mut former = Former::none(alloc);
         for period in periods {
-            match self.period_told(alloc, &period) {
+            match self.period_told(alloc, &period, &mut former) {
                 Ok(told) => told.add_to(&mut tolds)?,
                 Err(fault) => return Err(fault),
             }
@@ -159,12 +161,13 @@ impl Setting<'_> {
         &self,
         alloc: Global,
         period: &PeriodView<'_>,
+        former: &mut Former,
     ) -> Result<ByKind, PresentationFault>
         requires { AreOf self.now.shared.now (period_in period.now).tracks }
         ensures { Gives (λ told. told.video.items ++ (told.audio.items ++ told.text.items)) refusal result
             (spec.period_told self.now.base.now self.now.live (period_of period.now)) }
     {
-        let tolds = self.rows_told(alloc, period.tracks(), &end_of(period))?;
+        let tolds = self.rows_told(alloc, period.tracks(), &end_of(period), former)?;
         Ok(by_kind(alloc, tolds)?)
     }
 
@@ -174,15 +177,15 @@ impl Setting<'_> {
         alloc: Global,
         rows: RepWalk<'_, SegmentRow>,
         end: &End,
+        former: &mut Former,
     ) -> Result<Vec<PeriodContent>, PresentationFault>
         requires { AreOf self.now.shared.now (tracks_left rows) }
         ensures { Gives (λ tolds. tolds.items) refusal result
             (gathered (spec.one_told self.now.base.now self.now.live end.now) (rows_left rows.entry)) }
     {
         let mut tolds = Vec::new(alloc);
-        let mut former = self.base.copy(alloc)?;
         for row in rows {
-            match self.told(alloc, &row, end, &mut former) {
+            match self.told(alloc, &row, end, former) {
                 Ok(told) => tolds.push(told)?,
                 Err(fault) => return Err(fault),
             }

@@ -1,11 +1,10 @@
 // What Representations have in their Periods.
 ghost use Rattle.std.specs.Prelude.{◌≡◌, [], IfOk, option_map, unwrap_or};
 ghost use Rattle.bridge_io.specs.Answer.{Gives, told_as};
-ghost use Rattle.url_parts.specs.Addresses.{chain, resolve};
 ghost use Rattle.timeline.specs.Names.{referred};
 ghost use Rattle.timeline.specs.Expansions.{is_open};
 ghost use Rattle.mpd_levels.specs.Shown.{addressed, timelines_in};
-ghost use Rattle.mpd_rules.specs.Views.{bases_left, track_in, tracks_left, tables_of, period_in};
+ghost use Rattle.mpd_rules.specs.Views.{track_in, tracks_left, tables_of, period_in};
 ghost use Rattle.presentation.specs.Counting.{refusal};
 ghost use Rattle.template_ids.specs.Templates.{refusal as template_refusal};
 ghost use Rattle.url_parts.specs.Addresses.{refusal as url_refusal};
@@ -15,9 +14,10 @@ ghost use Rattle.mpd_presentation.specs.Scales.{scale_of};
 ghost use Rattle.mpd_presentation.specs.Shared.{IsShared};
 ghost use Rattle.mpd_presentation.specs.Told as spec;
 
+use crate::former::Former;
 use crate::shared::Shared;
 use bridge_io::{Kind, NoMemory, Place, Text};
-use mpd_rules::{Addressing, BaseWalk, PeriodView, RepView};
+use mpd_rules::{Addressing, PeriodView, RepView};
 use presentation::{Content, PresentationFault, Spot};
 use std::alloc::Global;
 use template_ids::{Ids, Template, TemplateFault};
@@ -42,13 +42,13 @@ pub(crate) struct Setting<'a> {
 }
 
 impl Setting<'_> {
-    /// What a Representation has in its Period, which lasts so long. Where its base is the former one's, that is kept once.
+    /// What a Representation has in its Period, which lasts so long. What is the same as in the former one is kept once.
     pub(crate) fn told(
         &self,
         alloc: Global,
         row: &RepView<'_>,
         end: &End,
-        former: &mut Base,
+        former: &mut Former,
     ) -> Result<PeriodContent, PresentationFault>
         requires { IsShared (track_in row.now).segments.tables self.now.shared.now }
         ensures { Gives (λ told. told) refusal result (spec.told_of self.now.base.now self.now.live end.now (row_of row.now)) }
@@ -68,17 +68,17 @@ impl Setting<'_> {
         row: &RepView<'_>,
         told: &Addressing<'_>,
         end: End,
-        former: &mut Base,
+        former: &mut Former,
     ) -> Result<Content, PresentationFault>
         requires { IsShared (tables_of told.now) self.now.shared.now }
         ensures { Gives (λ content. content) refusal result
             (spec.content_of self.now.base.now self.now.live end (row_of row.now).description (addressed told.now)) }
     {
         let place = row.place();
-        let media = media_of(alloc, told, place)?;
-        let template = init_of(alloc, told, place)?;
+        let media = media_of(alloc, told, place, former)?;
+        let template = init_of(alloc, told, place, former)?;
         let base = base_of(alloc, self.base, row, former)?;
-        let initialization = initialization_of(alloc, row, told, &template, &base)?;
+        let initialization = initialization_of(alloc, row, told, &template, &base, former)?;
         let names = names_of(alloc, row, told, media, base)?;
         let runs = self.runs_of(alloc, told, end, names, place)?;
         Ok(Content {
@@ -177,10 +177,11 @@ fn media_of(
     alloc: Global,
     told: &Addressing<'_>,
     place: Place,
+    former: &mut Former,
 ) -> Result<Template, PresentationFault>
     ensures { Gives (λ template. template) refusal result (spec.media_of place (addressed told.now)) }
 {
-    match Template::read(alloc, told.media().unwrap_or("")) {
+    match former.media(alloc, told.media().unwrap_or("")) {
         Ok(template) => Ok(template),
         Err(fault) => Err(at_template(fault, place)),
     }
@@ -191,22 +192,23 @@ fn init_of(
     alloc: Global,
     told: &Addressing<'_>,
     place: Place,
+    former: &mut Former,
 ) -> Result<Option<Template>, PresentationFault>
     ensures { Gives (λ template. template) refusal result (spec.init_of place (addressed told.now)) }
 {
     let Some(text) = told.init_template() else {
         return Ok(None);
     };
-    match init_template(alloc, text) {
+    match init_template(alloc, text, former) {
         Ok(template) => Ok(Some(template)),
         Err(fault) => Err(at_template(fault, place)),
     }
 }
 
-fn init_template(alloc: Global, text: &str) -> Result<Template, TemplateFault>
+fn init_template(alloc: Global, text: &str, former: &mut Former) -> Result<Template, TemplateFault>
     ensures { Gives (λ template. template) template_refusal result (spec.init_template_of text.now) }
 {
-    let template = Template::read(alloc, text)?;
+    let template = former.init(alloc, text)?;
     if template.uses_number() || template.uses_time() {
         return Err(TemplateFault::Unknown);
     }
@@ -218,35 +220,14 @@ fn base_of(
     alloc: Global,
     url: &Base,
     row: &RepView<'_>,
-    former: &mut Base,
+    former: &mut Former,
 ) -> Result<Base, PresentationFault>
     ensures { Gives (λ base. base) refusal result (spec.base_of url.now (row_of row.now).description) }
 {
-    match deepest(alloc, url, row.base_references()) {
-        Ok(base) => Ok(kept_once(alloc, base, former)?),
+    match former.base(alloc, url, row.base_references()) {
+        Ok(base) => Ok(base),
         Err(fault) => Err(at_url(fault, row.place())),
     }
-}
-
-/// A base, which is kept once where it is the former one.
-fn kept_once(alloc: Global, base: Base, former: &mut Base) -> Result<Base, NoMemory>
-    ensures { IfOk result (λ kept. kept ≡ base) }
-{
-    if base.as_str() != former.as_str() {
-        *former = base;
-    }
-    former.copy(alloc)
-}
-
-/// The base that references give one after another.
-fn deepest(alloc: Global, url: &Base, references: BaseWalk<'_>) -> Result<Base, UrlFault>
-    ensures { Gives (λ base. base) url_refusal result (chain url.now (bases_left references.entry)) }
-{
-    let mut base = url.copy(alloc)?;
-    for reference in references {
-        base = base.deeper(alloc, reference)?;
-    }
-    Ok(base)
 }
 
 /// The initialization part of a Representation.
@@ -256,11 +237,12 @@ fn initialization_of(
     told: &Addressing<'_>,
     template: &Option<Template>,
     base: &Base,
+    former: &mut Former,
 ) -> Result<Part, PresentationFault>
     ensures { Gives (λ part. part) refusal result
         (spec.initialization_of (row_of row.now).description (addressed told.now) template.now base.now) }
 {
-    match init_address(alloc, row, told, template, base) {
+    match init_address(alloc, row, told, template, base, former) {
         Ok(address) => Ok(Part {
             address,
             range: told.init_range(),
@@ -275,6 +257,7 @@ fn init_address(
     told: &Addressing<'_>,
     template: &Option<Template>,
     base: &Base,
+    former: &mut Former,
 ) -> Result<Address, UrlFault>
     ensures { Gives (λ address. address) url_refusal result
         (referred base.now (spec.init_reference (row_of row.now).description (addressed told.now) template.now)) }
@@ -282,9 +265,9 @@ fn init_address(
     match template {
         Some(template) => {
             let name = init_name(alloc, row, template)?;
-            base.join(alloc, name.as_str())
+            former.address(alloc, base, name.as_str())
         }
-        None => refer(alloc, base, told.init_reference()),
+        None => refer(alloc, base, told.init_reference(), former),
     }
 }
 
@@ -303,12 +286,17 @@ fn init_name(alloc: Global, row: &RepView<'_>, template: &Template) -> Result<Te
 
 /// The address of a reference against a base. An absent one is the base itself.
 #[tactic(auto, using(crate::proofs::OwnAddress::own_address))]
-fn refer(alloc: Global, base: &Base, reference: Option<&str>) -> Result<Address, UrlFault>
+fn refer(
+    alloc: Global,
+    base: &Base,
+    reference: Option<&str>,
+    former: &mut Former,
+) -> Result<Address, UrlFault>
     ensures { Gives (λ address. address) url_refusal result (referred base.now (option_map (λ text. text.now) reference.entry)) }
 {
     match reference {
-        Some(reference) => base.join(alloc, reference),
-        None => base.join(alloc, base.as_str()),
+        Some(reference) => former.address(alloc, base, reference),
+        None => former.address(alloc, base, base.as_str()),
     }
 }
 

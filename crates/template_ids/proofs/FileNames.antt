@@ -102,7 +102,7 @@ behind (b ∷ text) great small rest = behind_byte _ _ (behind text great small 
 
 -- ---- what identifiers are replaced by
 
-zeros_are_digits : (k : ℕ) (ds : List ℕ) → all_ascii_digits ds ≡ true → all_ascii_digits (replicate k 48 ++ ds) ≡ true
+pub zeros_are_digits : (k : ℕ) (ds : List ℕ) → all_ascii_digits ds ≡ true → all_ascii_digits (replicate k 48 ++ ds) ≡ true
 zeros_are_digits zero ds are = are
 zeros_are_digits (suc k) ds are = zeros_are_digits k ds are
 

@@ -1,2 +1,3 @@
 mod Cutting
 pub mod FileNames
+pub mod Paths

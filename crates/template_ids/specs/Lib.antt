@@ -2,3 +2,4 @@ pub mod Identifiers
 pub mod Templates
 pub mod Pieces
 pub mod FileNames
+pub mod Filled

@@ -2,12 +2,15 @@
 #![tactic(auto)]
 
 mod fault;
+mod filled;
 mod identifier;
 mod ids;
 pub mod laws;
 mod piece;
+mod slot;
 mod template;
 
 pub use fault::TemplateFault;
+pub use filled::Filled;
 pub use ids::{BorrowedIds, Ids};
 pub use template::Template;

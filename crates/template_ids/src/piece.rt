@@ -101,7 +101,8 @@ impl Piece {
     }
 }
 
-fn push_padded(name: &mut String, number: u64, width: u8) -> Result<(), AllocError>
+/// Adds a number, padded with zeros to a width.
+pub fn push_padded(name: &mut String, number: u64, width: u8) -> Result<(), AllocError>
     requires { width ≤ 20 }
     ensures { OnOk result (string_bytes name.new ≡ string_bytes name.old ++ padded width (decimal number)) }
 {

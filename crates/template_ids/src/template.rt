@@ -4,10 +4,11 @@ ghost use Rattle.bridge_io.specs.Answer.{Gives};
 
 use crate::identifier::Quantity;
 use crate::piece::{self, Piece};
-use crate::{BorrowedIds, Ids, TemplateFault};
+use crate::{BorrowedIds, Filled, Ids, TemplateFault};
 use bridge_io::{NoMemory, Text};
 use std::alloc::Global;
 use std::marker::Model;
+use std::rc::Rc;
 
 /// A segment template of an MPD (ISO/IEC 23009-1, 5.3.9.4.4).
 ///
@@ -17,6 +18,12 @@ use std::marker::Model;
 /// with zeros to w digits.
 #[derive(Drop)]
 pub struct Template {
+    parts: Rc<Parts>,
+}
+
+/// A template's text, and the pieces that it is cut into.
+#[derive(Drop)]
+struct Parts {
     text: Text,
     pieces: Vec<Piece>,
 }
@@ -28,14 +35,16 @@ impl Model for Template {
 
     ghost Value = { List ℕ };
 
-    ghost view = { λ t. t.text };
+    ghost view = { λ t. t.parts.value.text };
 
-    ghost invariant = { λ t. (template_of t.text ≡ Ok t.text) × AreOf t.text t.pieces.items };
+    ghost invariant = { λ t. let parts = t.parts.value in (template_of parts.text ≡ Ok parts.text) × AreOf parts.text parts.pieces.items };
 }
 
 impl Template {
     ghost use Rattle.template_ids.specs.Templates.{ids_of, named, template_of, refusal, uses_number, uses_time};
     ghost use Rattle.template_ids.specs.FileNames.{names_files};
+    ghost use Rattle.template_ids.specs.Filled.{IsFilled};
+    ghost use Rattle.template_ids.specs.Pieces.{AreOf};
 
     /// Reads a text as a template.
     ///
@@ -53,7 +62,24 @@ impl Template {
             return Err(TemplateFault::Both);
         }
         let text = Text::copy_of(alloc, text)?;
-        Ok(Template { text, pieces })
+        Ok(Template::of(alloc, text, pieces)?)
+    }
+
+    fn of(alloc: Global, text: Text, pieces: Vec<Piece>) -> Result<Template, NoMemory>
+        requires is { template_of text ≡ Ok text }
+        requires pieces { AreOf text pieces.items }
+        ensures { IfOk result (λ template. template ≡ text) }
+    {
+        let parts = Rc::new(alloc, Parts { text, pieces })?;
+        Ok(Template { parts })
+    }
+
+    /// The same template once more, without a copy of it.
+    pub fn share(&self) -> Result<Template, NoMemory>
+        ensures { IfOk result (λ template. template ≡ self.now) }
+    {
+        let parts = self.parts.clone()?;
+        Ok(Template { parts })
     }
 
     /// The template's text.
@@ -61,7 +87,7 @@ impl Template {
         ensures text { result.now ≡ self.now }
         ensures template { template_of self.now ≡ Ok self.now }
     {
-        self.text.as_str()
+        self.parts.text.as_str()
     }
 
     /// The text of the template with each identifier replaced by what it stands for.
@@ -84,16 +110,29 @@ impl Template {
     pub fn push_name(&self, text: &mut String, ids: &BorrowedIds<'_>) -> Result<(), NoMemory>
         ensures { OnOk result (string_bytes text.new ≡ string_bytes text.old ++ named self.now (ids_of ids.now)) }
     {
-        let template = self.text.as_str();
-        for piece in &self.pieces {
+        let template = self.parts.text.as_str();
+        for piece in &self.parts.pieces {
             piece.push_to(text, template, ids)?;
         }
         Ok(())
     }
 
+    /// The names of the segments that have this id and bandwidth.
+    pub fn filled(&self, alloc: Global, id: &str, bandwidth: u64) -> Result<Filled, NoMemory>
+        ensures { IfOk result (IsFilled self.now id.now bandwidth) }
+    {
+        let template = self.parts.text.as_str();
+        let mut filled = Filled::empty(alloc);
+        for piece in &self.parts.pieces {
+            filled.push(alloc, *piece, template, id, bandwidth)?;
+        }
+        Ok(filled)
+    }
+
     /// How many bytes the name takes at most. It is a guess for the memory to ask for, and no contract rests on it.
     pub fn room(&self, ids: &BorrowedIds<'_>) -> usize {
-        self.pieces
+        self.parts
+            .pieces
             .iter()
             .fold(0usize, |room, piece| room.saturating_add(piece.room(ids)))
     }
@@ -118,13 +157,13 @@ impl Template {
     pub fn uses_number(&self) -> bool
         ensures { result ≡ uses_number self.now }
     {
-        piece::has(&self.pieces, Quantity::Number)
+        piece::has(&self.parts.pieces, Quantity::Number)
     }
 
     /// Whether an identifier of the template is `Time`.
     pub fn uses_time(&self) -> bool
         ensures { result ≡ uses_time self.now }
     {
-        piece::has(&self.pieces, Quantity::Time)
+        piece::has(&self.parts.pieces, Quantity::Time)
     }
 }

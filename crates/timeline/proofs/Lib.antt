@@ -17,3 +17,4 @@ pub mod Rises
 pub mod RunsLemmas
 pub mod Splits
 pub mod WalkLemmas
+mod Beneath

@@ -1,8 +1,9 @@
 -- Names of files in one folder, for all numbers and times.
-use Rattle.std.specs.Prelude.{◌≡◌, ℕ, ◌<◌, ◌^◌, ◌&&◌, ◌++◌, nat_le, Bool, false, List, [], length, None, Ok}
-use Rattle.template_ids.specs.{Templates.named, FileNames.names_files}
+use Rattle.std.specs.Prelude.{◌≡◌, ℕ, ◌<◌, ◌^◌, ◌&&◌, ◌++◌, nat_le, Bool, false, List, [], length, string_bytes, None, Ok}
+use Rattle.template_ids.specs.{Templates.named, FileNames.names_files, Filled.name_of}
 use Rattle.url_parts.specs.Addresses.{folder_of}
-use Rattle.timeline.specs.{declared.names.Names.Names, declared.names.Names.TheVariants.{Template, List as Listed, Shared, Addresses}}
+use Rattle.timeline.specs.{declared.names.Files.Files, declared.names.Names.Names, declared.names.Names.TheVariants.{Template, List as Listed}}
+use Rattle.timeline.specs.declared.names.Names.TheVariants.{Shared, Addresses}
 use Rattle.timeline.specs.Names.{part_of}
 
 -- whether a template names files, for which the base's text leaves room in an address
@@ -33,6 +34,8 @@ abbrev pub AreInFolder : Names → Type 0
 AreInFolder names = (place number time : ℕ) → number < 2 ^ 64 → time < 2 ^ 64 →
     part_of names place number time ≡ Ok (record { address = folder_of_names names ++ file_name names number time; range = None })
 
--- a text is the folder in which all names lie
-abbrev pub IsFolder : Names → List ℕ → Type 0
-IsFolder names text = (text ≡ folder_of_names names) × AreInFolder names
+-- a folder's text, and the names that lie in it
+pub record AreFilesOf (names : Names) (files : Files) : Type 0 where
+  pub folder : string_bytes files.folder ≡ folder_of_names names
+  pub names_are : (number time : ℕ) → name_of files.names number time ≡ file_name names number time
+  pub addressed : AreInFolder names

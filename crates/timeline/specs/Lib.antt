@@ -10,6 +10,7 @@ pub mod Building
 pub mod Limits
 pub mod Listed
 pub mod MediaTimelines
+pub mod Makers
 pub mod Names
 pub mod OpenEnds
 pub mod OwnParts

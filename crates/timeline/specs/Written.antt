@@ -1,7 +1,8 @@
 -- The address that is written last.
 use Rattle.std.specs.Prelude.{ℕ, List, Option, IfSome, string_bytes}
 use Rattle.url_parts.specs.{declared.address.Part.Part, declared.range.Range.Range}
-use Rattle.timeline.specs.{Expansions.SegmentTimeline, FileNames.IsFolder, declared.address_writer.AddressWriter.TheInside.Inside}
+use Rattle.timeline.specs.{Expansions.SegmentTimeline, FileNames.AreFilesOf, declared.address_writer.AddressWriter.TheInside.Inside}
+use Rattle.timeline.specs.Makers.{IsMakerOf}
 
 pub record Written : Type 0 where
   pub timeline : SegmentTimeline
@@ -10,9 +11,9 @@ pub record Written : Type 0 where
 abbrev pub written : Inside → Written
 written w = record { timeline = w.runs.now; address = string_bytes w.text }
 
--- a folder is that of all names
+-- files are those of all names, and what the maker keeps is of the names
 abbrev pub IsWriter : Inside → Type 0
-IsWriter w = IfSome w.folder (λ folder. IsFolder w.runs.now.names (string_bytes folder))
+IsWriter w = IfSome w.files (AreFilesOf w.runs.now.names) × IsMakerOf w.runs.now.names w.maker
 
 -- a file with a range
 abbrev pub part_with : List ℕ → Option Range → Part

@@ -6,11 +6,13 @@ ghost use Rattle.timeline.specs.Names.{list_refusal};
 ghost use Rattle.timeline.specs.Written.{part_with};
 
 use crate::listing::part_of;
+use crate::maker::Maker;
+use crate::names::Files;
 use crate::{ListFault, Runs, Span};
 use bridge_io::NoMemory;
 use std::alloc::Global;
 use std::marker::Model;
-use url_parts::{Range, Resolver};
+use url_parts::Range;
 
 /// Writes the addresses of a Representation's segments, each in the place of the one before.
 ///
@@ -18,10 +20,10 @@ use url_parts::{Range, Resolver};
 #[derive(Drop)]
 pub struct AddressWriter<'a> {
     runs: &'a Runs,
-    /// The folder of all names, where each is that of a file.
-    folder: Option<String>,
+    /// The names in their folder, where each is that of a file.
+    files: Option<Files>,
     text: String,
-    resolver: Resolver,
+    maker: Maker,
 }
 
 impl<'a> Model for AddressWriter<'a> {
@@ -40,9 +42,9 @@ impl<'a> AddressWriter<'a> {
     {
         Ok(AddressWriter {
             runs,
-            folder: runs.names.folder(alloc)?,
+            files: runs.names.files(alloc)?,
             text: String::new(alloc),
-            resolver: Resolver::new(),
+            maker: Maker::new(),
         })
     }
 
@@ -53,16 +55,15 @@ impl<'a> AddressWriter<'a> {
         ensures timeline { self.new.timeline ≡ self.old.timeline }
     {
         let runs = self.runs;
-        match &self.folder {
-            Some(folder) => {
-                write_text(&mut self.text, folder.as_str())?;
+        match &self.files {
+            Some(files) => {
+                write_text(&mut self.text, files.folder.as_str())?;
                 let time = runs.media_time(span.start);
-                runs.names
-                    .push_file_name(&mut self.text, span.number, time)?;
+                files.names.push_name(&mut self.text, span.number, time)?;
                 Ok(None)
             }
             None => {
-                let part = part_of(runs, alloc, &mut self.resolver, span)?;
+                let part = part_of(runs, alloc, &mut self.maker, span)?;
                 write_text(&mut self.text, part.address.as_str())?;
                 Ok(part.range)
             }

@@ -2,13 +2,15 @@
 ghost use Rattle.std.specs.Prelude.{◌≡◌, ◌+◌, MatchOption, MatchResult};
 ghost use Rattle.bridge_io.specs.Answer.{Gives};
 ghost use Rattle.timeline.specs.Listed.{CanBeNamed, part_of_timing, timing_of};
+ghost use Rattle.timeline.specs.Makers.{IsMakerOf};
 ghost use Rattle.timeline.specs.Names.{list_refusal};
 
+use crate::maker::Maker;
 use crate::{AddressWriter, ListFault, Runs, Span, TimeWalk};
 use bridge_io::{Ledger, NoMemory, Steps};
 use std::alloc::Global;
 use std::marker::Model;
-use url_parts::{Address, Part, Range, Resolver};
+use url_parts::{Address, Part, Range};
 
 /// A segment: its address, its range and its times. Only a `Listing` makes one.
 #[derive(Drop)]
@@ -65,7 +67,7 @@ impl Segment {
 pub struct Listing<'a> {
     runs: &'a Runs,
     walk: TimeWalk<'a>,
-    resolver: Resolver,
+    maker: Maker,
 }
 
 impl<'a> Model for Listing<'a> {
@@ -77,7 +79,9 @@ impl<'a> Model for Listing<'a> {
 
     ghost view = { λ l. record { timeline = l.runs.now; left = l.walk } };
 
-    ghost invariant = { λ l. IsWithin l.runs.now l.walk };
+    ghost use Rattle.timeline.specs.Makers.{IsMakerOf};
+
+    ghost invariant = { λ l. IsWithin l.runs.now l.walk × IsMakerOf l.runs.now.names l.maker };
 }
 
 impl<'a> Listing<'a> {
@@ -93,7 +97,7 @@ impl<'a> Listing<'a> {
         Listing {
             runs,
             walk,
-            resolver: Resolver::new(),
+            maker: Maker::new(),
         }
     }
 
@@ -113,7 +117,7 @@ impl<'a> Listing<'a> {
         let Some(span) = self.walk.peek() else {
             return Ok(None);
         };
-        let part = part_of(self.runs, alloc, &mut self.resolver, &span)?;
+        let part = part_of(self.runs, alloc, &mut self.maker, &span)?;
         self.walk.advance();
         steps.tick();
         Ok(Some(Segment { part, span }))
@@ -153,16 +157,18 @@ impl<'a> Listing<'a> {
 pub(crate) fn part_of(
     runs: &Runs,
     alloc: Global,
-    resolver: &mut Resolver,
+    maker: &mut Maker,
     span: &Span,
 ) -> Result<Part, ListFault>
-    requires { CanBeNamed runs.now (timing_of span.now) }
-    ensures { Gives (λ part. part) list_refusal result (part_of_timing runs.now (timing_of span.now)) }
+    requires named { CanBeNamed runs.now (timing_of span.now) }
+    requires maker { IsMakerOf runs.now.names maker.old }
+    ensures part { Gives (λ part. part) list_refusal result (part_of_timing runs.now (timing_of span.now)) }
+    ensures kept { IsMakerOf runs.now.names maker.new }
 {
     let place = span.number - runs.scale.start_number;
     runs.names.part(
         alloc,
-        resolver,
+        maker,
         place,
         span.number,
         runs.media_time(span.start),

@@ -1,16 +1,19 @@
 // The names of segments, against which addresses are made.
-ghost use Rattle.std.specs.Prelude.{◌≡◌, ◌++◌, IfOk, IfSome, OnOk, None, true, string_bytes};
+ghost use Rattle.std.specs.Prelude.{◌≡◌, IfOk, IfSome, None, true};
 ghost use Rattle.std.specs.Option.{option_copied};
 ghost use Rattle.bridge_io.specs.Answer.{Gives};
+ghost use Rattle.timeline.specs.FileNames.{AreFilesOf, AreInFolder, are_files};
 ghost use Rattle.template_ids.specs.Templates.{ids_of, named};
-ghost use Rattle.timeline.specs.FileNames.{AreInFolder, IsFolder, are_files, file_name};
+ghost use Rattle.timeline.specs.Makers.{IsFilledBy, IsMakerOf};
 ghost use Rattle.timeline.specs.Names.{list_refusal, listed_part, own_part, part_at};
 ghost use Rattle.url_parts.specs.Addresses.{resolve};
 
+use crate::filled_names::FilledNames;
+use crate::maker::Maker;
 use crate::{ListFault, PartList, RefList, RefPart, SharedNames};
 use bridge_io::{NoMemory, Text};
 use std::alloc::Global;
-use template_ids::{BorrowedIds, Template};
+use template_ids::{BorrowedIds, Filled, Template};
 use url_parts::{Base, Part, Range, Resolver, UrlFault};
 
 /// The most bytes that a base has of which each file in its folder has an address: the longest name of a file has 255, and
@@ -41,6 +44,13 @@ pub enum Names {
     Addresses {
         parts: PartList,
     },
+}
+
+/// The names of files in one folder.
+#[derive(Drop)]
+pub(crate) struct Files {
+    pub(crate) folder: String,
+    pub(crate) names: Filled,
 }
 
 impl Names {
@@ -122,59 +132,40 @@ impl Names {
         }
     }
 
-    /// The folder in which all names lie, where each is that of a file.
-    pub(crate) fn folder(&self, alloc: Global) -> Result<Option<String>, NoMemory>
-        ensures { IfOk result (λ folder. IfSome folder (λ folder. IsFolder self.now (string_bytes folder))) }
+    /// The names in their folder, where each is that of a file.
+    pub(crate) fn files(&self, alloc: Global) -> Result<Option<Files>, NoMemory>
+        ensures { IfOk result (λ files. IfSome files (AreFilesOf self.now)) }
     {
         if !self.are_files(alloc)? {
             return Ok(None);
         }
         match self {
-            Names::Template { base, .. } => Ok(Some(base.begin(alloc, 0)?)),
+            Names::Template {
+                media,
+                id,
+                bandwidth,
+                base,
+            } => {
+                let folder = base.begin(alloc, 0)?;
+                let names = media.filled(alloc, id.as_str(), *bandwidth)?;
+                Ok(Some(Files { folder, names }))
+            }
             Names::List { .. } | Names::Shared { .. } | Names::Addresses { .. } => Ok(None),
         }
     }
 
-    /// Adds the name of a file at the end of a text.
-    pub(crate) fn push_file_name(
-        &self,
-        text: &mut String,
-        number: u64,
-        time: u64,
-    ) -> Result<(), NoMemory>
-        ensures { OnOk result (string_bytes text.new ≡ string_bytes text.old ++ file_name self.now number time) }
-    {
-        match self {
-            Names::Template {
-                media,
-                id,
-                bandwidth,
-                ..
-            } => {
-                let ids = BorrowedIds {
-                    id: id.as_str(),
-                    bandwidth: *bandwidth,
-                    number,
-                    time,
-                };
-                media.push_name(text, &ids)
-            }
-            Names::List { .. } | Names::Shared { .. } | Names::Addresses { .. } => Ok(()),
-        }
-    }
-
     /// The address and range of the segment at a place, which begins at a media time.
-    ///
-    /// The resolver keeps the folder of an absolute name before, so that one in it isn't parsed.
     pub(crate) fn part(
         &self,
         alloc: Global,
-        resolver: &mut Resolver,
+        maker: &mut Maker,
         place: u64,
         number: u64,
         time: u64,
     ) -> Result<Part, ListFault>
-        ensures { Gives (λ part. part) list_refusal result (part_of self.now place number time) }
+        requires { IsMakerOf self.now maker.old }
+        ensures part { Gives (λ part. part) list_refusal result (part_of self.now place number time) }
+        ensures kept { IsMakerOf self.now maker.new }
     {
         match self {
             Names::Template {
@@ -189,38 +180,58 @@ impl Names {
                     number,
                     time,
                 };
-                named_part(alloc, media, &ids, base)
+                named_part(alloc, maker, media, &ids, base)
             }
             Names::List { parts, base } => listed_part(
                 alloc,
-                resolver,
+                &mut maker.resolver,
                 parts.get(place as usize),
                 base,
             ),
-            Names::Shared { parts, base } => {
-                listed_part(alloc, resolver, parts.parts().get(place as usize), base)
-            }
+            Names::Shared { parts, base } => listed_part(
+                alloc,
+                &mut maker.resolver,
+                parts.parts().get(place as usize),
+                base,
+            ),
             Names::Addresses { parts } => own_part(alloc, parts.get(place as usize)),
         }
     }
 }
 
-/// The address of a segment by a template, whose name is written right behind the base's folder.
+/// The address of a segment by a template. What the names have in common is kept for the next one.
 fn named_part(
     alloc: Global,
+    maker: &mut Maker,
     media: &Template,
     ids: &BorrowedIds<'_>,
     base: &Base,
 ) -> Result<Part, ListFault>
-    ensures { Gives (λ part. part) list_refusal result (part_at None (resolve base.now (named media.now (ids_of ids.now)))) }
+    requires { IfSome maker.old.filled (IsFilledBy media.now ids.now.id.now ids.now.bandwidth base.now) }
+    ensures part { Gives (λ part. part) list_refusal result (part_at None (resolve base.now (named media.now (ids_of ids.now)))) }
+    ensures kept { IfSome maker.new.filled (IsFilledBy media.now ids.now.id.now ids.now.bandwidth base.now) }
 {
-    let mut text = base.begin(alloc, media.room(ids))?;
-    media.push_name(&mut text, ids)?;
-    let address = base.finish(alloc, text)?;
-    Ok(Part {
-        address,
-        range: None,
-    })
+    let filled = filled_once(alloc, maker.filled.take(), media, ids, base)?;
+    let part = filled.part(alloc, base, ids.number, ids.time);
+    maker.filled = Some(filled);
+    part
+}
+
+/// The names of a template, which are worked out where they aren't yet.
+fn filled_once(
+    alloc: Global,
+    filled: Option<FilledNames>,
+    media: &Template,
+    ids: &BorrowedIds<'_>,
+    base: &Base,
+) -> Result<FilledNames, NoMemory>
+    requires { IfSome filled (IsFilledBy media.now ids.now.id.now ids.now.bandwidth base.now) }
+    ensures { IfOk result (IsFilledBy media.now ids.now.id.now ids.now.bandwidth base.now) }
+{
+    match filled {
+        Some(filled) => Ok(filled),
+        None => FilledNames::of(alloc, media, ids.id, ids.bandwidth, base),
+    }
 }
 
 /// The address and range of a segment by its name.

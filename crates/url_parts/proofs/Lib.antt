@@ -7,3 +7,4 @@ pub mod Neighbours
 pub mod Parsed
 pub mod Chains
 pub mod Codes
+mod Fronts

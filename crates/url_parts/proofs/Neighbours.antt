@@ -5,7 +5,7 @@ use Rattle.std.specs.{Prelude.nat_eq, List.starts_with}
 use Rattle.bridge_io.specs.Names.{is_name}
 use Rattle.url_parts.specs.{Addresses.{resolve, unless_long, folder_of, is_name_in, IsAddress, IsBase, IsFolder}, Laws.IsGivenInFolder}
 use Rattle.url_parts.proofs.{Bases.{resolve_web_text, web_from_accepted}, Parsed.address_is_base, Relative.{child, child_valid}}
-use Rattle.url_parts.proofs.Relative.{child_spelled, accepted_child, name_is_address}
+use Rattle.url_parts.proofs.Relative.{child_spelled, accepted_child, name_is_address, name_is_plain}
 
 -- a folder's text and a name is given by each base
 resolve_whole : (front name base : List ℕ) → IsBase front → is_name name ≡ true
@@ -14,8 +14,8 @@ resolve_whole front name base is named =
     let url = child is.url name in
     let spelled = child_spelled is.url name is.is ∙ ap (λ t. folder_of t ++ name) is.spelled in
     ap (resolve base) (sym spelled)
-    ∙ resolve_web_text url base (child_valid is.url name is.is named) (web_from_accepted is.url _ is.is.accepted)
-    ∙ accepted_child is.url name is.is named ∙ ap (λ t. unless_long (folder_of t ++ name)) is.spelled
+    ∙ resolve_web_text url base (child_valid is.url name is.is (name_is_plain name named)) (web_from_accepted is.url _ is.is.accepted)
+    ∙ accepted_child is.url name is.is (name_is_plain name named) ∙ ap (λ t. unless_long (folder_of t ++ name)) is.spelled
 
 parts_in : (folder text : List ℕ) → is_name_in folder text ≡ true → (text ≡ folder ++ drop (length folder) text)
     × (is_name (drop (length folder) text) ≡ true)

@@ -35,7 +35,7 @@ then_holds P Q (Err e) next holds later = tt
 
 -- ---- paths
 
-abbrev IsByte : ℕ → Type 0
+abbrev pub IsByte : ℕ → Type 0
 IsByte b = b < 256
 
 -- the path after more segments
@@ -322,7 +322,8 @@ clean_bytes input all =
     All-filter (λ b. not (is_tab_or_new_line b)) IsByte (take len text)
     (All-take IsByte len text (All-drop IsByte (prefix_len is_c0_control_or_space input) input all))
 
-url_on_web : (base : Option Parts) (input : List ℕ) → IfSome base IsValidOnWeb → All IsByte input → IfOk (parse_url base input) IsValidOnWeb
+pub url_on_web : (base : Option Parts) (input : List ℕ) → IfSome base IsValidOnWeb → All IsByte input
+    → IfOk (parse_url base input) IsValidOnWeb
 unfolding parse_url
 url_on_web base input valid all =
     let hash = split_once 35 (strip_tabs_and_new_lines (trim_c0_control_and_space input)) in
@@ -332,7 +333,7 @@ url_on_web base input valid all =
 
 -- ---- addresses
 
-accepted_text : (url : Parts) (text : List ℕ) → accepted_url url ≡ Ok text → text_of url ≡ text
+pub accepted_text : (url : Parts) (text : List ℕ) → accepted_url url ≡ Ok text → text_of url ≡ text
 accepted_text url text is = grind arith
 
 accepted_is_base : (parsed : Parsed Parts) (text : List ℕ) → IfOk parsed IsValidOnWeb → accepted parsed ≡ Ok text → IsBase text

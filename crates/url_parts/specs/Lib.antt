@@ -2,3 +2,4 @@ pub mod Addresses
 pub mod Laws
 pub mod Ranges
 pub mod Codes
+pub mod Paths

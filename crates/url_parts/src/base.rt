@@ -1,11 +1,13 @@
 // Bases, against which references are resolved.
-ghost use Rattle.std.specs.Prelude.{◌≡◌, ◌≤◌, ℕ, true, List, ◌++◌, length, take, drop, IfOk, IsAscii, position, string_bytes};
+ghost use Rattle.std.specs.Prelude.{◌≡◌, ◌≤◌, ℕ, true, List, ◌++◌, length, take, drop, IfOk, IfSome, IsAscii, position, string_bytes};
 ghost use Rattle.std.specs.List.{list_all};
 ghost use Rattle.url.specs.Parser.{Gives as IsParsed, Parsed};
 ghost use Rattle.url.specs.Parts.{Parts, IsValid};
 ghost use Rattle.bridge_io.specs.Answer.{Gives};
 ghost use Rattle.url_parts.specs.Addresses.{is_absolute, is_address_byte, is_web, text_of, accepted, refusal, IsAddress, IsBaseUrl};
 ghost use Rattle.url_parts.specs.Addresses.{folder_of, unless_long, is_tail, without_tail, local_name_of};
+ghost use Rattle.url_parts.specs.Paths.{is_folder_path, is_path_byte, is_plain, is_segment_byte};
+ghost use Rattle.bridge_io.specs.Names.{is_name_byte};
 
 use crate::{Address, UrlFault};
 use bridge_io::{Name, NameFault, NoMemory, Text, is_name};
@@ -16,6 +18,9 @@ use url::{ParseResult, Url};
 
 /// The most bytes that an address has.
 const MAX_LEN: usize = 2048;
+
+/// The most bytes that a name has.
+const MAX_NAME_LEN: usize = 255;
 
 /// An address against which references are resolved (RFC 3986, 5.1; ISO/IEC 23009-1, 5.6.4).
 ///
@@ -39,8 +44,8 @@ impl Model for Base {
 }
 
 impl Base {
-    ghost use Rattle.bridge_io.specs.Names.{is_name};
     ghost use Rattle.url_parts.specs.Addresses.{absolute, resolve, beside, IsBase};
+    ghost use Rattle.url_parts.specs.Paths.{is_plain, IsBeneath};
 
     /// Reads an absolute URL as a base. Refused, Scheme and TooLong come exactly where they hold of the text, the first
     /// of them in this order.
@@ -62,15 +67,33 @@ impl Base {
         Ok(Base::new(alloc, self.resolve(alloc, reference)?)?)
     }
 
+    /// The base of all paths that begin with a front that ends in `/`: each is resolved against it as it is behind the front
+    /// against this base. There is none where the front isn't the path of a folder, or where no base comes of it.
+    #[tactic(auto, using(crate::proofs::Fronts::beneath))]
+    pub fn beneath(&self, alloc: Global, front: &str) -> Result<Option<Base>, NoMemory>
+        ensures { IfOk result (λ deeper. IfSome deeper (IsBeneath self.now front.now)) }
+    {
+        let _ = self.as_str(); // opens the value, for what it keeps
+        if !is_folder_path(front) {
+            return Ok(None);
+        }
+        match self.deeper(alloc, front) {
+            Ok(deeper) => Ok(Some(deeper)),
+            Err(UrlFault::Memory) => Err(NoMemory),
+            Err(_) => Ok(None),
+        }
+    }
+
     /// The address that a reference gives against this base.
     ///
-    /// A name stands right behind the base's folder, so that nothing of it is parsed. Refused, Scheme and TooLong come
-    /// exactly where they hold of the reference against this base, the first of them in this order.
-    #[tactic(auto, using(crate::proofs::Relative::resolve_name))]
+    /// A name stands right behind the base's folder, so that nothing of it is parsed, and so does one segment that is longer.
+    /// Refused, Scheme and TooLong come exactly where they hold of the reference against this base, the first of them in
+    /// this order.
+    #[tactic(auto, using(crate::proofs::Relative::resolve_plain))]
     pub fn join(&self, alloc: Global, reference: &str) -> Result<Address, UrlFault>
         ensures { Gives (λ address. address) refusal result (resolve self.now reference.now) }
     {
-        if is_name(reference.as_bytes()) {
+        if is_plain(reference.as_bytes()) {
             return self.child(alloc, reference);
         }
         Ok(address_of(alloc, self.resolve(alloc, reference)?)?)
@@ -101,7 +124,7 @@ impl Base {
         ensures { Gives (λ address. address) refusal result (resolve self.now (drop (length (folder_of self.now)) (string_bytes text))) }
     {
         let reference = &text.as_str()[self.folder().len()..];
-        if !is_name(reference.as_bytes()) {
+        if !is_plain(reference.as_bytes()) {
             return self.join(alloc, reference);
         }
         unless_long(alloc, text)
@@ -112,7 +135,7 @@ impl Base {
     ///
     /// TooLong comes exactly where this text has more than 2,048 bytes. Refused would come where the text isn't the one
     /// that the URL Standard writes for it: of a base and a name it always is (`laws::name_beside`).
-    #[tactic(auto, using(crate::proofs::Relative::beside_name))]
+    #[tactic(auto, using(crate::proofs::Relative::beside_name, crate::proofs::Relative::name_is_plain))]
     pub fn beside(&self, alloc: Global, name: &Name) -> Result<Address, UrlFault>
         ensures { Gives (λ address. address) refusal result (beside self.now name.now) }
     {
@@ -158,7 +181,7 @@ impl Base {
 
     /// The address of a name in the base's folder.
     fn child(&self, alloc: Global, name: &str) -> Result<Address, UrlFault>
-        requires { is_name name.now ≡ true }
+        requires { is_plain name.now ≡ true }
         ensures value { Gives (λ address. address) refusal result (unless_long (folder_of self.now ++ name.now)) }
         ensures base { IsBase self.now }
     {
@@ -285,6 +308,49 @@ pub(crate) fn is_absolute(reference: &str) -> bool
     ensures { result ≡ is_absolute reference.now }
 {
     reference.starts_with("http://") || reference.starts_with("https://")
+}
+
+/// Whether a text is the path of a folder, in a relative reference.
+fn is_folder_path(text: &str) -> bool
+    ensures { result ≡ is_folder_path text.now }
+{
+    let bytes = text.as_bytes();
+    have_path_bytes(bytes)
+        && !bytes.is_empty()
+        && bytes[0] != b'/'
+        && bytes[bytes.len() - 1] == b'/'
+}
+
+fn have_path_bytes(bytes: &[u8]) -> bool
+    ensures { result ≡ list_all is_path_byte bytes.now }
+{
+    bytes.iter().all(|byte| is_path_byte(*byte))
+}
+
+fn is_path_byte(byte: u8) -> bool
+    ensures { result ≡ is_path_byte byte }
+{
+    byte.is_ascii_graphic() && !matches!(byte, b'#' | b':' | b'?' | b'\\')
+}
+
+/// Whether a text stands behind a folder as it is: a name, or one segment that is longer than names are.
+fn is_plain(text: &[u8]) -> bool
+    ensures { result ≡ is_plain text.now }
+{
+    is_name(text) || text.len() > MAX_NAME_LEN && has_segment_bytes(text)
+}
+
+fn has_segment_bytes(text: &[u8]) -> bool
+    ensures { result ≡ list_all is_segment_byte text.now }
+{
+    text.iter().all(|byte| is_segment_byte(*byte))
+}
+
+fn is_segment_byte(byte: u8) -> bool
+    ensures { result ≡ is_segment_byte byte }
+{
+    byte.is_ascii_alphanumeric()
+        || matches!(byte, b'-' | b'.' | b'_' | b'~' | b'+' | b'=' | b',' | b'@')
 }
 
 fn has_address_bytes(text: &str) -> bool

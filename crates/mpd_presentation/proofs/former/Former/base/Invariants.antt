@@ -1,4 +1,4 @@
-use Rattle.mpd_presentation.proofs.told.deepest.Given as goal
+use Rattle.mpd_presentation.proofs.former.Former.base.Given as goal
 use Rattle.std.proofs.Common.{◌≡◌}
 use Rattle.url_parts.specs.Addresses.{chain}
 use Rattle.mpd_rules.specs.Views.{bases_left}

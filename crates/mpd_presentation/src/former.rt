@@ -1,0 +1,174 @@
+// What Representations before had.
+ghost use Rattle.std.specs.Prelude.{◌≡◌, Ok};
+ghost use Rattle.bridge_io.specs.Answer.{Gives};
+ghost use Rattle.mpd_rules.specs.Views.{bases_left};
+ghost use Rattle.template_ids.specs.Templates.{template_of, refusal as template_refusal};
+ghost use Rattle.url_parts.specs.Addresses.{chain, resolve, refusal as url_refusal};
+
+use bridge_io::{NoMemory, Text};
+use mpd_rules::BaseWalk;
+use std::alloc::Global;
+use std::mem;
+use template_ids::{Template, TemplateFault};
+use url_parts::{Address, Base, UrlFault};
+
+/// What the Representation before had. What is the same in the next one is worked out and kept once.
+#[derive(Drop)]
+pub(crate) struct Former {
+    media: Option<Template>,
+    init: Option<Template>,
+    /// What its BaseURLs gave, from the MPD down.
+    steps: Vec<Step>,
+    initialization: Option<Resolved>,
+}
+
+/// A base that a BaseURL gave.
+#[derive(Drop)]
+struct Step {
+    from: Base,
+    reference: Text,
+    to: Base,
+    ghost gives: { resolve from reference ≡ Ok to },
+}
+
+/// An address that a reference gave.
+#[derive(Drop)]
+struct Resolved {
+    from: Base,
+    reference: Text,
+    to: Address,
+    ghost gives: { resolve from reference ≡ Ok to },
+}
+
+impl Former {
+    /// There was none.
+    pub(crate) fn none(alloc: Global) -> Former {
+        Former {
+            media: None,
+            init: None,
+            steps: Vec::new(alloc),
+            initialization: None,
+        }
+    }
+
+    /// The template of the segments' addresses.
+    pub(crate) fn media(&mut self, alloc: Global, text: &str) -> Result<Template, TemplateFault>
+        ensures { Gives (λ template. template) template_refusal result (template_of text.now) }
+    {
+        template_by(alloc, text, &mut self.media)
+    }
+
+    /// The template of the initialization part's address.
+    pub(crate) fn init(&mut self, alloc: Global, text: &str) -> Result<Template, TemplateFault>
+        ensures { Gives (λ template. template) template_refusal result (template_of text.now) }
+    {
+        template_by(alloc, text, &mut self.init)
+    }
+
+    /// The base that references give one after another.
+    pub(crate) fn base(
+        &mut self,
+        alloc: Global,
+        url: &Base,
+        references: BaseWalk<'_>,
+    ) -> Result<Base, UrlFault>
+        ensures { Gives (λ base. base) url_refusal result (chain url.now (bases_left references.entry)) }
+    {
+        let mut base = url.copy(alloc)?;
+        let mut former = mem::replace(&mut self.steps, Vec::new(alloc)).into_iter();
+        for reference in references {
+            let step = Step::of(alloc, former.next(), &base, reference)?;
+            base = step.to.copy(alloc)?;
+            self.keep(step)?;
+        }
+        Ok(base)
+    }
+
+    fn keep(&mut self, step: Step) -> Result<(), NoMemory> {
+        self.steps.push(step)?;
+        Ok(())
+    }
+
+    /// The address of the initialization part, by its reference against a base.
+    pub(crate) fn address(
+        &mut self,
+        alloc: Global,
+        base: &Base,
+        reference: &str,
+    ) -> Result<Address, UrlFault>
+        ensures { Gives (λ address. address) url_refusal result (resolve base.now reference.now) }
+    {
+        let resolved = Resolved::of(alloc, self.initialization.take(), base, reference)?;
+        let address = resolved.to.copy(alloc)?;
+        self.initialization = Some(resolved);
+        Ok(address)
+    }
+}
+
+impl Step {
+    fn of(
+        alloc: Global,
+        former: Option<Step>,
+        from: &Base,
+        reference: &str,
+    ) -> Result<Step, UrlFault>
+        ensures { Gives (λ step. step.to) url_refusal result (resolve from.now reference.now) }
+    {
+        if let Some(step) = former {
+            if step.from.as_str() == from.as_str() && step.reference.as_str() == reference {
+                return Ok(step);
+            }
+        }
+        let to = from.deeper(alloc, reference)?;
+        let from = from.copy(alloc)?;
+        let reference = Text::copy_of(alloc, reference)?;
+        Ok(Step {
+            from,
+            reference,
+            to,
+        })
+    }
+}
+
+impl Resolved {
+    fn of(
+        alloc: Global,
+        former: Option<Resolved>,
+        from: &Base,
+        reference: &str,
+    ) -> Result<Resolved, UrlFault>
+        ensures { Gives (λ resolved. resolved.to) url_refusal result (resolve from.now reference.now) }
+    {
+        if let Some(resolved) = former {
+            if resolved.from.as_str() == from.as_str() && resolved.reference.as_str() == reference {
+                return Ok(resolved);
+            }
+        }
+        let to = from.join(alloc, reference)?;
+        let from = from.copy(alloc)?;
+        let reference = Text::copy_of(alloc, reference)?;
+        Ok(Resolved {
+            from,
+            reference,
+            to,
+        })
+    }
+}
+
+/// The template that a text is, which is kept once where it is the former one.
+fn template_by(
+    alloc: Global,
+    text: &str,
+    former: &mut Option<Template>,
+) -> Result<Template, TemplateFault>
+    ensures { Gives (λ template. template) template_refusal result (template_of text.now) }
+{
+    if let Some(template) = former {
+        if template.as_str() == text {
+            return Ok(template.share()?);
+        }
+    }
+    let template = Template::read(alloc, text)?;
+    *former = Some(template.share()?);
+    Ok(template)
+}
