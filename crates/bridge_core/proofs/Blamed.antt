@@ -13,7 +13,7 @@ use Rattle.bridge_courses.proofs.Statuses.{rose_later}
 use Rattle.bridge_report.specs.Outcomes.{Outcome, course_by}
 use Rattle.bridge_steps.specs.Endings.{JobEndsAs}
 use Rattle.bridge_steps.proofs.Works.{met}
-use Rattle.bridge_core.specs.Courses.{Follows, IsBlamed, ReadRose, ReadsInputAlone, course_of_job, outcome_of_job}
+use Rattle.bridge_core.specs.Courses.{Follows, IsBlamed, ReadRose, course_of_job, outcome_of_job}
 
 -- ---- of a job that follows
 
@@ -36,20 +36,6 @@ not_followed (job.HlsIndex j) one other f = f
 not_followed (job.DashTimes j) one other f = f
 not_followed (job.Agree j) one other f = f
 not_followed (job.FollowHls j) one other f = other j refl
-
--- one that reads the input alone follows
-pub alone_follows : (j : Job) → ReadsInputAlone (Some j) → Follows (Some j)
-alone_follows (job.Hls j) alone = absurd alone
-alone_follows (job.Dash j) alone = absurd alone
-alone_follows (job.Follow j) alone = tt
-alone_follows (job.Show j) alone = absurd alone
-alone_follows (job.Check j) alone = absurd alone
-alone_follows (job.Reload j) alone = absurd alone
-alone_follows (job.Make j) alone = absurd alone
-alone_follows (job.HlsIndex j) alone = absurd alone
-alone_follows (job.DashTimes j) alone = absurd alone
-alone_follows (job.Agree j) alone = absurd alone
-alone_follows (job.FollowHls j) alone = absurd alone
 
 store_read : (j : Job) → (Follows (Some j) → ⊥) → (i i' r r' : ℕ) → Rose r r' → ReadRose (Some j) i i' r r'
 store_read (job.Hls j) other i i' r r' rose = rose

@@ -46,10 +46,19 @@ Follows (Some (job.Follow j)) = Unit {0}
 Follows (Some (job.FollowHls j)) = Unit {0}
 Follows other = ⊥
 
--- it reads nothing but the input
-abbrev pub ReadsInputAlone : Option Job → Type 0
-ReadsInputAlone (Some (job.Follow j)) = Unit {0}
-ReadsInputAlone other = ⊥
+-- it reads no file of the store
+abbrev pub ReadsNoFile : Option Job → Type 0
+ReadsNoFile (Some (job.Follow j)) = Unit {0}
+ReadsNoFile (Some (job.Make j)) = Unit {0}
+ReadsNoFile other = ⊥
+
+-- it writes none
+abbrev pub WritesNoFile : Option Job → Type 0
+WritesNoFile (Some (job.Show j)) = Unit {0}
+WritesNoFile (Some (job.Check j)) = Unit {0}
+WritesNoFile (Some (job.Agree j)) = Unit {0}
+WritesNoFile (Some (job.Reload j)) = Unit {0}
+WritesNoFile other = ⊥
 
 -- ---- causes
 

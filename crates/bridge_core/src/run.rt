@@ -9,7 +9,7 @@ ghost use Rattle.bridge_courses.specs.Laws.{IsCalm};
 ghost use Rattle.bridge_courses.specs.Steps.{Work};
 ghost use Rattle.bridge_steps.specs.Endings.{JobEndsAs, around};
 ghost use Rattle.bridge_steps.specs.Follow.{Grows, world_of};
-ghost use Rattle.bridge_core.specs.Courses.{Follows, IsBlamed, ReadRose, ReadsInputAlone};
+ghost use Rattle.bridge_core.specs.Courses.{Follows, IsBlamed, ReadRose, ReadsNoFile, WritesNoFile};
 ghost use Rattle.bridge_core.specs.Courses.{course_of, course_of_job, outcome_of_job};
 ghost use Rattle.bridge_core.specs.Reports.{TellsItsEnd};
 
@@ -68,9 +68,11 @@ pub fn bridge<I: Source, F: Store, P: Sink, L: Ledger>(
     // How it ends is told, whatever the store tells.
     ensures told { TellsItsEnd result (P.faults report.old) (P.faults report.new) (P.written report.old) (P.written report.new) }
 
-    // The input is read by a job that follows alone, and the store never by one that follows an MPD.
+    // The input is read by a job that follows alone, the store never by one that follows an MPD nor by one that makes one, and
+    // never written by one that only tells something of its files.
     ensures input { (Follows (job_of words.now) → ⊥) → input.new ≡ input.old }
-    ensures reads { ReadsInputAlone (job_of words.now) → F.read_faults store.new ≡ F.read_faults store.old }
+    ensures reads { ReadsNoFile (job_of words.now) → F.read_faults store.new ≡ F.read_faults store.old }
+    ensures writes { WritesNoFile (job_of words.now) → F.write_faults store.new ≡ F.write_faults store.old }
 {
     let ending = work(alloc, words, input, store, report, steps);
     tell(&ending, report)
@@ -94,7 +96,8 @@ fn work<I: Source, F: Store, P: Sink, L: Ledger>(
         (world_of I.Source F.Store P.Sink input.new store.new report.new steps.new) }
     ensures told { Grows (P.written report.old) (P.written report.new) }
     ensures input { (Follows (job_of words.now) → ⊥) → input.new ≡ input.old }
-    ensures reads { ReadsInputAlone (job_of words.now) → F.read_faults store.new ≡ F.read_faults store.old }
+    ensures reads { ReadsNoFile (job_of words.now) → F.read_faults store.new ≡ F.read_faults store.old }
+    ensures writes { WritesNoFile (job_of words.now) → F.write_faults store.new ≡ F.write_faults store.old }
 {
     match job(alloc, words) {
         Ok(Some(job)) => run_job(alloc, job, input, store, report, steps),
@@ -120,7 +123,8 @@ fn run_job<I: Source, F: Store, P: Sink, L: Ledger>(
         (world_of I.Source F.Store P.Sink input.new store.new report.new steps.new) }
     ensures told { Grows (P.written report.old) (P.written report.new) }
     ensures input { (Follows (Some job) → ⊥) → input.new ≡ input.old }
-    ensures reads { ReadsInputAlone (Some job) → F.read_faults store.new ≡ F.read_faults store.old }
+    ensures reads { ReadsNoFile (Some job) → F.read_faults store.new ≡ F.read_faults store.old }
+    ensures writes { WritesNoFile (Some job) → F.write_faults store.new ≡ F.write_faults store.old }
 {
     match job {
         Job::Follow(job) => follow::run(alloc, job, input, store, report, steps),
@@ -138,8 +142,10 @@ fn run_owned<F: Store, L: Ledger>(
 ) -> Ending
     requires readable { HasReadableNow job }
     requires other { Follows (Some job) → ⊥ }
-    ensures { JobEndsAs (outcome_of_job (Some job) (F.files store.old)) result
+    ensures ends { JobEndsAs (outcome_of_job (Some job) (F.files store.old)) result
         (around F.Store store.old steps.old) (around F.Store store.new steps.new) }
+    ensures reads { ReadsNoFile (Some job) → F.read_faults store.new ≡ F.read_faults store.old }
+    ensures writes { WritesNoFile (Some job) → F.write_faults store.new ≡ F.write_faults store.old }
 {
     let ending = run_command(alloc, &job, store, steps);
     drop(job);
@@ -155,8 +161,10 @@ fn run_command<F: Store, L: Ledger>(
 ) -> Ending
     requires readable { HasReadableNow job.now }
     requires other { Follows (Some job.now) → ⊥ }
-    ensures { JobEndsAs (outcome_of_job (Some job.now) (F.files store.old)) result
+    ensures ends { JobEndsAs (outcome_of_job (Some job.now) (F.files store.old)) result
         (around F.Store store.old steps.old) (around F.Store store.new steps.new) }
+    ensures reads { ReadsNoFile (Some job.now) → F.read_faults store.new ≡ F.read_faults store.old }
+    ensures writes { WritesNoFile (Some job.now) → F.write_faults store.new ≡ F.write_faults store.old }
 {
     match job {
         Job::Hls(job) => hls::run(alloc, job, store, steps),

@@ -1,8 +1,8 @@
 use Rattle.std.proofs.Common.{refl, arith}
 use Rattle.bridge_core.proofs.run.run_command.Goals as goal
 
-pub returns-in-Reload : goal.returns-in-Reload
-returns-in-Reload g c = let told = c.run_reload.ensures in
+pub returns-in-Reload-clause-ends : goal.returns-in-Reload-clause-ends
+returns-in-Reload-clause-ends g c = let told = c.run_reload.ensures in
     rw c.in-Reload.is
     (record {
       ends = record {
