@@ -1,19 +1,21 @@
 #!/usr/bin/env bash
-# Runs each recipe of docs/COOKBOOK.md as it stands in a fresh folder, and compares what each block of commands prints with the block below
-# it: where that says `for example`, but for its numbers. It names each recipe that prints what the page shows, and shows each difference.
-# Words are the titles of recipes to be run, all without any.
+# Runs each recipe of docs/COOKBOOK.md and docs/OPERATING.md as it stands in a fresh folder, and compares what each block of commands prints
+# with the block below it: where that says `for example`, but for its numbers. It names each recipe that prints what the page shows, and
+# shows each difference. Words are the titles of recipes to be run, all without any.
 #
-# It wants what the page names, and `bridge` on the path.
+# It wants what the pages name, and `bridge` on the path.
 set -euo pipefail
 here=$(cd "$(dirname "$0")/.." && pwd)
 export examples=$here/examples
 
-python3 - "$here/docs/COOKBOOK.md" "$@" <<'PY'
+python3 - "$here/docs" "$@" <<'PY'
 import difflib, re, subprocess, sys, tempfile
 
-page, *wanted = sys.argv[1:]
-with open(page) as it:
-    recipes = re.split(r"^## ", it.read(), flags=re.M)[1:]
+docs, *wanted = sys.argv[1:]
+recipes = []
+for page in ["COOKBOOK.md", "OPERATING.md"]:
+    with open(f"{docs}/{page}") as it:
+        recipes += re.split(r"^## ", it.read(), flags=re.M)[1:]
 BLOCK = re.compile(r"^```sh\n(.*?)^```\n(?:\n```text( for example)?\n(.*?)^```\n)?", re.M | re.S)
 
 def told(text, masked):
@@ -22,7 +24,7 @@ def told(text, masked):
 wrong = 0
 for recipe in recipes:
     title, blocks = recipe.split("\n", 1)[0], BLOCK.findall(recipe)
-    if wanted and title not in wanted:
+    if not blocks or wanted and title not in wanted:
         continue
     with tempfile.TemporaryDirectory() as folder, tempfile.TemporaryDirectory() as prints:
         script = "".join(f"{{\n{commands}}} > {prints}/{n} 2>&1\n" for n, (commands, _, _) in enumerate(blocks))
