@@ -1,0 +1,16 @@
+//! The files that the bridge writes of a manifest, made in memory of what was read for it: the pages of a [`page_server`].
+#![tactic(auto)]
+
+mod ends;
+mod made;
+mod media;
+mod needs;
+mod page;
+mod playlists;
+mod sources;
+mod verb;
+mod words;
+
+pub use made::Made;
+pub use page::pages;
+pub use playlists::Playlists;

@@ -1,0 +1,4 @@
+mod Chains
+mod Paths
+mod SameFiles
+mod Shelved
