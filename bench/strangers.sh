@@ -84,8 +84,6 @@ long = [
      "a BaseURL of 7.9 MB of `a/../`, 200 Representations"),
     ("hls", under("encoded.mpd", 1, 200, ("a/%2e%2e/" * 870_000, "", ""), template("$Number$")), BASE,
      "one of 7.8 MB of `a/%2e%2e/`"),
-    ("hls", under("levels.mpd", 995, 190, (UP * 400, UP * 74, UP * 74), template("$Number$")), BASE,
-     "995 Periods of 190 Representations, below BaseURLs at three levels"),
 ]
 short = [
     ("hls", under("dollars.mpd", 1, 200, ("", "", ""), template("$$" * 250_000 + "$Number$")), BASE,
@@ -102,6 +100,8 @@ def judge(rows, most_seconds, most_megabytes):
         assert seconds <= most_seconds and megabytes <= most_megabytes, what
     print()
 
+rows.append(("hls", under("levels.mpd", 995, 190, (UP * 400, UP * 74, UP * 74), template("$Number$")), BASE,
+             "995 Periods of 190 Representations, below BaseURLs at three levels"))
 judge(rows, 5, 600)
 judge(long, 2, 200)
 judge(short, 2, 100)
