@@ -1,9 +1,9 @@
 #!/usr/bin/env bash
-# Runs each recipe of docs/COOKBOOK.md and docs/OPERATING.md as it stands in a fresh folder, and compares what each block of commands prints
-# with the block below it: where that says `for example`, but for its numbers. It names each recipe that prints what the page shows, and
-# shows each difference. Words are the titles of recipes to be run, all without any.
+# Runs each recipe of docs/COOKBOOK.md, docs/SERVING.md and docs/OPERATING.md as it is written, in a new directory, and compares what each
+# block of commands prints with the block after it: where that says `for example`, without the numbers. It names each recipe that prints what
+# the page shows, and shows each difference. Arguments are the titles of recipes to run; without any it runs all.
 #
-# It wants what the pages name, and `bridge` on the path.
+# It needs what the pages name, and `bridge` and `bridge_serve` on the path.
 set -euo pipefail
 here=$(cd "$(dirname "$0")/.." && pwd)
 export examples=$here/examples
@@ -13,7 +13,7 @@ import difflib, re, subprocess, sys, tempfile
 
 docs, *wanted = sys.argv[1:]
 recipes = []
-for page in ["COOKBOOK.md", "OPERATING.md"]:
+for page in ["COOKBOOK.md", "SERVING.md", "OPERATING.md"]:
     with open(f"{docs}/{page}") as it:
         recipes += re.split(r"^## ", it.read(), flags=re.M)[1:]
 BLOCK = re.compile(r"^```sh\n(.*?)^```\n(?:\n```text( for example)?\n(.*?)^```\n)?", re.M | re.S)

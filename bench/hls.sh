@@ -8,7 +8,7 @@ set -euo pipefail
 source "$(dirname "$0")/program.sh"
 
 cat > "$work/hls.py" <<'PY'
-import os, shutil, sys
+import os, re, shutil, sys
 
 from measure import measure
 from readers import installed
@@ -47,10 +47,20 @@ for label, command in [
     if shutil.which(command[0]):
         found = measure(command)
         rows.append((label, *(found or (0, 0))))
-out = ["# Speed and memory", "",
+with open("/proc/cpuinfo") as it:
+    processors = re.findall(r"^model name\s*: (.*)$", it.read(), re.M) or ["not known"]
+with open("/proc/meminfo") as it:
+    memory = int(it.read().split()[1]) / 2**20
+with open("/etc/os-release") as it:
+    system = re.search(r'^PRETTY_NAME="?([^"\n]*)', it.read(), re.M)[1]
+out = ["# Performance", "",
+       "Time and memory of each command, beside other tools, and with hostile input. Each table names its script in `bench`. The shortest of eleven",
+       "runs counts, with the largest memory; for hostile input the longest of three. *(B)* marks what was measured on a machine at half the speed,",
+       "beside other checks.", "",
+       "| machine | |", "|---|---|", f"| processor | {len(processors)}; {processors[0]} |", f"| memory | {memory:.0f} GB |", f"| system | {system} |", "",
        f"`bridge hls` of an MPD of {os.path.getsize(big) / 1e6:.1f} MB with 100,000 S, which writes a playlist of "
-       f"{os.path.getsize('out/t0.m3u8') / 1e6:.1f} MB, and other readers on the same file: the shortest of",
-       "eleven runs, and the largest memory. `bench/hls.sh` measures this and writes these two tables.", "",
+       f"{os.path.getsize('out/t0.m3u8') / 1e6:.1f} MB, beside other readers of the same file. `bench/hls.sh`",
+       "measures this and writes this part of the page.", "",
        "| command | ms | MB | our time to its | our memory to its |", "|---|---|---|---|---|"]
 for label, t, m in rows:
     if t:

@@ -1,6 +1,6 @@
 #!/usr/bin/env bash
 # package.sh <folder of a release> [<root>]: installs the release's package into a fresh Debian 12 and translates the sample there as a user
-# without rights, which has to give README's master within a minute. Then it installs the package again while `bridge follow` runs, which
+# without rights, which has to give the master of docs/COOKBOOK.md within a minute. Then it installs the package again while `bridge follow` runs, which
 # has to go on; verifies the units; removes the package, of which nothing may be left; and runs the program of the archive. The fresh system
 # is a copy of the folder <root>, or made by debootstrap, which takes minutes that aren't counted.
 #
@@ -26,7 +26,7 @@ user cp /usr/share/manifest-bridge/vod.mpd .
 line=$(user bridge hls vod.mpd --base=https://h.example/)
 took=$((SECONDS - begun))
 is 'the sample' "$line" 'done tracks=5 sections=1 segments=920 left-out=1'
-sed -n '/^    #EXTM3U$/,/^    t2\.m3u8$/s/^    //p' "$here/README.md" | cmp -s - "$root/try/out/master.m3u8"; is "README's master" $? 0
+sed -n '/^    #EXTM3U$/,/^    t2\.m3u8$/s/^    //p' "$here/docs/COOKBOOK.md" | cmp -s - "$root/try/out/master.m3u8"; is "the page's master" $? 0
 is "$took s to install it and translate the sample, at most 60" $((took <= 60)) 1
 line=$(chroot "$root" env -C /try manifest-bridge show vod.mpd --base=https://h.example/ | head -n 1)
 is 'the name for root' "$line" 'mpd tracks=5 sections=1 segments=920 left-out=1'

@@ -4,8 +4,8 @@
 # into it. ffmpeg's and GStreamer's frames are compared byte by byte with those that ffmpeg decodes of the media files themselves; Chromium,
 # which is asked for each frame's time in turn, gives its frames from a canvas: their numbers are read, and their colours compared.
 #
-# It wants ffmpeg and python3, and `rt` where no program is named: `bench/players.sh [<program>]`. A row is a line of docs/PLAYLISTS.md's
-# table.
+# It wants ffmpeg and python3, and `rt` where no program is named: `bench/players.sh [<program>]`. docs/PLAYLISTS.md has
+# what it printed.
 set -euo pipefail
 if [ $# -eq 1 ]; then
     bridge=$(realpath "$1")

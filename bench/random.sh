@@ -1,7 +1,7 @@
 #!/usr/bin/env bash
 # Runs `bridge` over 20,000 random inputs: the rows of run_table's table, of which one file or the stream is cut, has two of its parts in
 # each other's place, a line twice, some bytes gone or a byte changed, up to four times. Each run has to end within 5 s and 600 MiB with a
-# status of docs/REPORT.md and a last line in that status's form, without a byte on standard error, with every file as before but playlists,
+# status of docs/COMMANDS.md and a last line in that status's form, without a byte on standard error, with every file as before but playlists,
 # masters and MPDs in its folder. Runs that don't are told and kept. It tells how many ended in each way.
 #
 # It wants `rt` and python3, and proves the program first where that isn't kept.

@@ -1,10 +1,10 @@
 #!/usr/bin/env bash
-# Runs the samples of docs/REPORT.md's tables of refusals, as the page says: a file of the page with one text in the place of another. It
+# Runs the samples of docs/ERRORS.md, as the page says: a file of the page with one text replaced by another. It
 # tells how many end in the line that the page has, and each that doesn't. It wants python3, and `bridge` on the path.
 set -euo pipefail
 here=$(cd "$(dirname "$0")/.." && pwd)
 
-python3 - "$here/docs/REPORT.md" <<'PY'
+python3 - "$here/docs/ERRORS.md" <<'PY'
 import os, re, subprocess, sys, tempfile
 
 with open(sys.argv[1]) as it:

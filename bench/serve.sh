@@ -1,7 +1,8 @@
 #!/usr/bin/env bash
 # Times `bridge_serve` over one TCP connection that is kept open, and beside it nginx, which sends the same bytes from a file: a sample's
 # master and playlist, an MPD of 120,000 segments from the translation that is kept, and a thousand MPDs in turn. Then it sends 10,000
-# mangled requests, each to a process of its own: each is answered by a status that HTTP has for it, or the connection ends.
+# mangled requests, each to a process of its own: each is answered by a status that HTTP has for it, or the connection ends. At last it asks
+# for manifests that name more than is read: each is rejected by 422, with at most 5 s and 512 MB, which is what the unit gives a process.
 #
 # It wants `rt`, python3, ab (apache2-utils), nginx and systemd-socket-activate, and proves the program first where that isn't kept;
 # SERVE names one that is built, MANGLED another number of requests.
@@ -107,6 +108,49 @@ for _ in range(int(os.environ.get("MANGLED", 10_000))):
     statuses[status] = statuses.get(status, 0) + 1
 assert set(statuses) <= {"200", "400", "404", "405", "414", "431", "501", "505", "none"}, statuses
 print("mangled:", ", ".join(f"{count} of {status}" for status, count in sorted(statuses.items())))
+
+# what is read for a manifest has a limit
+def indexed(name, count, file):
+    with open(f"site/{name}", "w") as it:
+        it.write('<MPD xmlns="urn:mpeg:dash:schema:mpd:2011"><Period duration="PT1S"><AdaptationSet mimeType="video/mp4" '
+                 'codecs="avc1.42c01e">')
+        for k in range(count):
+            it.write(f'<Representation id="{k}" bandwidth="{k + 1}"><BaseURL>{file(k)}</BaseURL><SegmentBase indexRange="0-7999999"/>'
+                     "</Representation>")
+        it.write("</AdaptationSet></Period></MPD>")
+
+def hard_links(count, ending):
+    for k in range(1, count):
+        os.link(f"site/0{ending}", f"site/{k}{ending}")
+
+with open("site/0.mp4", "wb") as it:
+    it.truncate(8_000_000)
+with open("site/0.m3u8", "w") as it:
+    it.write("#EXTM3U\n#EXT-X-TARGETDURATION:1\n" + "#EXTINF:1,\na.m4s\n" * 440_000)
+hard_links(200, ".mp4")
+hard_links(200, ".m3u8")
+with open("site/master.m3u8", "w") as it:
+    it.write("#EXTM3U\n" + "".join(f'#EXT-X-STREAM-INF:BANDWIDTH={k + 1},CODECS="avc1.42c01e"\n{k}.m3u8\n' for k in range(200)))
+indexed("many.mpd", 40_000, lambda k: "0.mp4")
+indexed("large.mpd", 200, lambda k: f"{k}.mp4")
+for what, path, words in [
+    ("an MPD of 40,000 Representations, each an index of 8 MB in one file", "/many.mpd/master.m3u8", ["--index=yes"]),
+    ("an MPD of 200, each an index of 8 MB in a file of its own", "/large.mpd/master.m3u8", ["--index=yes"]),
+    ("a master of 200 playlists of 8 MB", "/master.m3u8/manifest.mpd", []),
+]:
+    begun = time.perf_counter()
+    run = subprocess.Popen([serve, BASE, *words], cwd="site", stdin=subprocess.PIPE, stdout=subprocess.PIPE)
+    run.stdin.write(f"GET {path} HTTP/1.1\r\nHost: h\r\n\r\n".encode())
+    run.stdin.close()
+    answer = run.stdout.read()
+    _, status, used = os.wait4(run.pid, 0)
+    seconds, megabytes = time.perf_counter() - begun, used.ru_maxrss / 1000
+    line = answer.split(b"\r\n\r\n", 1)[-1].decode().strip()
+    print(f"{what}: {answer[9:12].decode()} {line}, {seconds:.1f} s, {megabytes:.0f} MB")
+    assert answer[9:12] == b"422" and seconds <= 5 and megabytes <= 512, what
+for name in os.listdir("site"):
+    if re.fullmatch(r"(\d+\.(mp4|m3u8)|master\.m3u8|many\.mpd|large\.mpd)", name):
+        os.remove(f"site/{name}")
 made = {"big.mpd", "sample.mpd", "big.files", "sample.files", *(f"m{k}.mpd" for k in range(1000))}
 print("written:", sorted(set(os.listdir("site")) - made) or "nothing")
 PY

@@ -1,7 +1,7 @@
 #!/usr/bin/env bash
 # Translates each MPD of a list, one process of `bridge` each, so many at a time, and keeps a line for each in a log: its status, its name
-# and its report, with tabs between. Then it sums the log up. An MPD a/b.mpd gets its playlists in a/b-hls. What the log has as done or
-# refused is not done again. In the folder whose URL is the base:  archive.sh <base> <list> <log> [<processes>]
+# and its report, with tabs between. Then it sums the log up. An MPD a/b.mpd gets its playlists in a/b-hls. What the log has as done or as
+# rejected isn't done again. In the directory served at the base URL:  archive.sh <base> <list> <log> [<processes>]
 set -euo pipefail
 base=$1 list=$2 log=$3 processes=${4:-$(nproc)}
 

@@ -1,8 +1,8 @@
 #!/usr/bin/env bash
-# Polls the playlists of a live HLS presentation and gives each round of them to `bridge follow-hls`. After each round that is accepted it
-# puts the MPD into the folder <live> by one rename, so that a server never has half of it. It is for a master whose variants are video, and
-# whose renditions have names of their own. In the folder whose URL is the base, where the master lies:
-#   follow-hls.sh <base> <name of the master there> <folder of the MPD> <seconds between polls> <polls>
+# Polls the playlists of a live HLS presentation and gives each snapshot of them to `bridge follow-hls`. After each one that is accepted it
+# puts the MPD into the directory <live> by one rename, so that a server never has half of it. It is for a multivariant playlist (master)
+# whose variants are video, and whose renditions have names of their own. In the directory served at the base URL, with the master:
+#   follow-hls.sh <base> <name of the master> <directory of the MPD> <seconds between polls> <polls>
 set -euo pipefail
 base=$1 master=$2 live=$3 seconds=$4 polls=$5
 mkdir -p "$live"
@@ -26,7 +26,7 @@ fetch() {
     done
 }
 
-# The header tells the instant and the length of each playlist; the playlists stand behind it in the tracks' order.
+# The header has the time and the length of each playlist; the playlists follow in the tracks' order.
 round() {
     echo "round $(date -u +%FT%T.%3NZ) $(for k in "${!tracks[@]}"; do wc -c < "$fetched/$k"; done | paste -s -d ' ')"
     for k in "${!tracks[@]}"; do cat "$fetched/$k"; done

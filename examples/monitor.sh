@@ -1,8 +1,7 @@
 #!/usr/bin/env bash
-# Watches live playlists: fetches each one time and again, has `bridge reload` judge each new version against the one before, and writes
-# what it saw to a file in the text format of Prometheus, for the textfile collector of node_exporter. An update that isn't valid is
-# reported in a line, and both versions are kept in the folder <wrong>. It ends after so many polls, or never by itself where their number
-# is 0.
+# Watches live playlists: polls each one, tests each new version against the one before by `bridge reload`, and writes its counts to a file
+# in the text format of Prometheus, for the textfile collector of node_exporter. It prints a line for an invalid update, and keeps both
+# versions in the directory <wrong>. It ends after so many polls, or never by itself if their number is 0.
 #   monitor.sh <file.prom> <wrong> <seconds between polls> <polls> <URL of a media playlist>..
 set -euo pipefail
 file=$(realpath "$1") wrong=$2 seconds=$3 polls=$4
@@ -40,7 +39,7 @@ poll() {
     mv new.m3u8 old.m3u8
 }
 
-# A metric: its name, its type, what it says, and a sample of each playlist.
+# A metric: its name, its type, what it means, and a sample of each playlist.
 metric() {
     printf '# HELP bridge_playlist_%s %s\n# TYPE bridge_playlist_%s %s\n' "$1" "$3" "$1" "$2"
     for url in "${urls[@]}"; do printf 'bridge_playlist_%s{playlist="%s"} %s\n' "$1" "$url" "${value[$1 $url]:-0}"; done

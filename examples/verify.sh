@@ -1,10 +1,9 @@
 #!/usr/bin/env bash
-# One job of continuous integration over a packager's output: whether its MPD and its master mean the same (`check`), whether the MPD has
-# the decode times of the media files (`agree`), and whether each version of each live playlist may follow the one before (`reload`). The
-# versions are files that were fetched: <versions> has a folder for each playlist, in which the order of the names is that of time. The
-# folder <reports> gets log.txt, with a line for each step and what a reviewer looks at where one failed, and junit.xml. The status is 0
-# where each step passed, 1 where one didn't, 2 where the machine failed. In the directory served at the base URL, below which all of these
-# lie:
+# Tests a packager's output in continuous integration: whether its MPD and its multivariant playlist (master) say the same (`check`),
+# whether the MPD has the decode times of the media files (`agree`), and whether each version of each live playlist is a valid update
+# (`reload`). The versions are files that were fetched: <versions> has a directory for each playlist, in which names sort by time. The
+# directory <reports> gets log.txt, with a line for each step and what a reviewer needs if one failed, and junit.xml. The status is 0 if
+# each step passed, 1 if one didn't, 2 on a system error. In the directory served at the base URL, with all of these below it:
 #   verify.sh <base> <mpd> <master> <reports> [<versions>]
 set -euo pipefail
 base=$1 mpd=$2 master=$3 reports=$4 versions=${5:-}
@@ -15,7 +14,7 @@ steps=0 failed=0 worst=0
 
 escaped() { sed 's/&/\&amp;/g; s/</\&lt;/g; s/>/\&gt;/g; s/"/\&quot;/g' | tr -d '\000-\010\013-\037'; }
 
-# What a reviewer looks at: the bytes that an error is at, the lines in which two versions differ, or what both manifests have.
+# What a reviewer needs: the bytes at the error, the lines in which two versions differ, or what both manifests have.
 look() {
     local command=$1 line=$2
     shift 2

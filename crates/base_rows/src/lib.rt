@@ -1,4 +1,4 @@
-//! Calls that no run of the tables makes, each once with ample memory, and the outside over the operating system.
+//! Calls that no run of the tables makes, each once with ample memory, and I/O over the operating system.
 #![tactic(auto)]
 
 #[cfg(test)]

@@ -1,4 +1,4 @@
-// Calls that no run makes: places behind an end, before another segment, and how an offset is told.
+// Calls that no run makes: positions after an end, before another segment, and how an offset is returned.
 use bridge_io::Text;
 use exact_time::{Nanos, Tick};
 use std::alloc::Global;

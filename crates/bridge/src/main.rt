@@ -1,4 +1,5 @@
-//! The manifest bridge as a program: it reads and writes files under the current folder, and reports on standard output.
+//! The manifest bridge as a program: it reads and writes files under the current directory, and reports on standard
+//! output.
 #![tactic(auto)]
 
 ghost use Rattle.std.specs.Prelude.{◌≡◌, ◌<◌};
@@ -20,7 +21,8 @@ fn main(rt: HostRuntime) -> ExitCode {
     ExitCode::from(status.number())
 }
 
-/// Runs the command over the real files and streams. An error is want of memory for the words or for these objects.
+/// Runs the command over the real files and streams. The error means out of memory, for the words or for these
+/// objects.
 fn start<L: Ledger>(rt: HostRuntime, blank: Blank) -> Result<Status, NoMemory>
     requires name { blank.name ≡ L.name }
     requires parts { blank.parts ≡ L.parts }
@@ -43,8 +45,8 @@ fn start<L: Ledger>(rt: HostRuntime, blank: Blank) -> Result<Status, NoMemory>
     ))
 }
 
-/// Three descriptors of nothing, which take the places of standard input, output and error where these are closed, so that no
-/// file that is opened later is taken for one of them.
+/// Three descriptors of `/dev/null`, which replace standard input, output and error where these are closed, so that no file
+/// that is opened later is mistaken for one of them.
 fn held_descriptors(rt: &HostRuntime) -> [io::Result<File>; 3] {
     [
         fs::open(rt, NOTHING),
@@ -53,10 +55,10 @@ fn held_descriptors(rt: &HostRuntime) -> [io::Result<File>; 3] {
     ]
 }
 
-/// The file that has no bytes and takes none where it is open for reading.
+/// An empty file; opened for reading, it accepts no writes.
 const NOTHING: &str = "/dev/null";
 
-/// The command's words without the program's own name. There are none, which is no job, where one isn't UTF-8.
+/// The command's words without the program's own name. There are none, which is a usage error, where one isn't UTF-8.
 fn words(rt: &HostRuntime) -> Result<Sequence<Text>, NoMemory> {
     let mut words = Sequence::new(rt.alloc());
     let given = match env::args(&(WithoutName(rt), rt.alloc())) {
@@ -70,7 +72,7 @@ fn words(rt: &HostRuntime) -> Result<Sequence<Text>, NoMemory> {
     Ok(words)
 }
 
-/// The environment with the words behind the program's own name, which may be any bytes.
+/// The environment with the words after the program's own name, which may be any bytes.
 #[derive(Drop)]
 struct WithoutName<'a>(&'a HostRuntime);
 

@@ -1,4 +1,4 @@
--- Whether an MPD and a master with its playlists agree.
+-- Whether an MPD and a master playlist with its media playlists agree.
 use Rattle.meaning.specs.declared.difference.Aspect.TheVariants as aspect
 use Rattle.bridge_courses.specs.declared.status.Verdict.TheVariants as verdict
 use Rattle.bridge_report.specs.declared.refusal.Refusal.TheVariants as refusal
@@ -40,14 +40,14 @@ same_text tracks sections segments =
 abbrev pub same_line : Presented → List ℕ
 same_line p = same_text (length p.tracks) (length p.sections) (count_of_all p)
 
--- what is told of an MPD's presentation that differs first so
+-- the report on an MPD's presentation, given the first difference
 abbrev pub verdict_of : Presented → Option Difference → Verdict × List ℕ
 verdict_of mpd None = (verdict.Done, same_line mpd)
 verdict_of mpd (Some d) = (verdict.Differ, differ_line d)
 
 -- ---- how the command ends
 
--- where the MPD and the master of a job lie
+-- the locations of the command's MPD and master playlist
 abbrev pub both_with : (mpd master : StorePlace) → StorePlace × StorePlace
 both_with mpd master = (mpd, master)
 
@@ -57,7 +57,7 @@ places_of job = option_and_then (λ mpd. option_map (both_with mpd) (store_place
 abbrev pub compared : (unit : ℕ) → (mpd playlists : Presented) → Verdict × List ℕ
 compared unit mpd playlists = verdict_of mpd (first_difference unit (meaning_of mpd) (meaning_of playlists))
 
--- the MPD first, of which a live one is refused behind its rules, and then the playlists
+-- the MPD first; a live one is rejected after its rules; and then the playlists
 unfoldable pub judged : CheckJob → (mpd master : StorePlace) → Files → Result (Verdict × List ℕ) Named
 judged job mpd master files =
     and_then (mpd_at (Some refusal.NotStatic) (10 ^ job.digits) None mpd files) (λ p.

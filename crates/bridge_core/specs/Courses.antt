@@ -1,4 +1,4 @@
--- What a run does where nothing fails, by its words, the store's files and the input.
+-- What a run does where nothing fails, by its command line, the store's files and the input.
 use Rattle.bridge_jobs.specs.declared.jobs.Job.TheVariants as job
 use Rattle.bridge_courses.specs.declared.status.Verdict.TheVariants as verdict
 use Rattle.bridge_courses.specs.declared.status.Status.TheVariants as status
@@ -15,7 +15,7 @@ use Rattle.bridge_reach.specs.{Agree.agree_outcome, DashTimes.dash_times_outcome
 abbrev pub no_job : Outcome
 no_job = Ends verdict.Words words_line false true
 
--- of the commands that read all before they write
+-- for the commands that read everything before they write
 abbrev pub outcome_of_job : Option Job → Option Files → Option Outcome
 outcome_of_job (Some (job.Hls j)) files = hls_outcome j files
 outcome_of_job (Some (job.Dash j)) files = dash_outcome j files
@@ -28,8 +28,9 @@ outcome_of_job (Some (job.DashTimes j)) files = dash_times_outcome j files
 outcome_of_job (Some (job.Agree j)) files = agree_outcome j files
 outcome_of_job other files = Some no_job
 
--- What a run of these words does over these files and this input. Where they aren't told, it is known if the words alone decide it.
--- `follow` goes by the input alone, `follow-hls` by the input and by the master's file, and the others by the files.
+-- What a run of this command line does with these files and this input. Where they aren't modelled, it is known if the command line
+-- alone decides it. `follow` depends only on the input, `follow-hls` on the input and on the master playlist's file, and the others
+-- on the files.
 abbrev pub course_of_job : Option Job → Option Files → (input : Option (List ℕ)) → Option Course
 course_of_job (Some (job.Follow j)) files input = followed_course j input
 course_of_job (Some (job.FollowHls j)) files input = rounds_course j files input
@@ -38,9 +39,9 @@ course_of_job other files input = option_map course_by (outcome_of_job other fil
 unfoldable pub course_of : (words : List (List ℕ)) → Option Files → (input : Option (List ℕ)) → Option Course
 course_of words files input = course_of_job (job_of words) files input
 
--- ---- jobs
+-- ---- commands
 
--- the job follows an MPD, or playlists
+-- the command follows an MPD, or playlists
 abbrev pub Follows : Option Job → Type 0
 Follows (Some (job.Follow j)) = Unit {0}
 Follows (Some (job.FollowHls j)) = Unit {0}
@@ -62,15 +63,15 @@ WritesNoFile other = ⊥
 
 -- ---- causes
 
--- what a job reads failed, by counts of faults of the input and of the store: the input of a job that follows, the store of any
--- other, and of one that follows playlists either
+-- what a command reads failed, by counts of faults of the input and of the store: the input of a command that follows, the
+-- store of any other, and either for one that follows playlists
 abbrev pub ReadRose : Option Job → (input input' reads reads' : ℕ) → Type 0
 ReadRose (Some (job.Follow j)) input input' reads reads' = Rose input input'
 ReadRose (Some (job.FollowHls j)) input input' reads reads' = Rose input input' ⊎ Rose reads reads'
 ReadRose (Some other) input input' reads reads' = Rose reads reads'
 ReadRose None input input' reads reads' = ⊥
 
--- a fault has its cause, and Words are told of no job
+-- an I/O error has its cause, and `Words` comes only for a usage error
 pub record IsBlamed (job : Option Job) (told : Ending) (before after : World) : Type 0 where
   pub read_fault : status_of told ≡ status.ReadFault
       → ReadRose job before.input_faults after.input_faults before.read_faults after.read_faults

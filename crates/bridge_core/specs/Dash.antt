@@ -19,7 +19,7 @@ files_of job p = mpd_file job.out p ∷ []
 abbrev pub outcome_of : MasterJob → Result Presented Named → Outcome
 outcome_of job read = outcome_written (files_of job) done_line read
 
--- the master is at this place
+-- the master playlist is at this location
 abbrev pub dash_at : MasterJob → Option Files → StorePlace → Option Outcome
 dash_at job files place = option_map (λ files. outcome_of job (presented_at place files)) files
 

@@ -10,7 +10,7 @@ use Rattle.bridge_live.specs.LiveMpds.{followed_mpd, frame_stream}
 abbrev pub terms_at : FollowJob → StorePlace → Terms
 terms_at job place = record { url = place.url; digits = job.digits }
 
--- the MPD is read under this place's name, and its frames from the input
+-- the MPD has this location, and its update frames come from the input
 abbrev pub follow_at : FollowJob → (input : Option (List ℕ)) → StorePlace → Option Course
 follow_at job input place = option_map (follow_course (followed_mpd (terms_at job place) job.out) frame_stream None) input
 

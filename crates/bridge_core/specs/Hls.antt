@@ -14,7 +14,8 @@ use Rattle.bridge_steps.specs.Endings.{outcome_written, placed}
 use Rattle.bridge_live.specs.LiveMpds.{live_files, told_of}
 use Rattle.bridge_steps.specs.{Manifests.{ready_of, values_of}, Playlists.playlists}
 
--- What is written: of a static MPD its presentation, with so many decimals; of a live one what it leaves as a first frame.
+-- What is written: for a static MPD its presentation, with a number of decimals; for a live one the state after it as a
+-- first update frame.
 pub data Translation : Type 0 where
   Static : (digits : ℕ) → Presented → Translation
   Live : State → Translation
@@ -23,7 +24,7 @@ abbrev pub translated : Held → Translation
 translated (held.Static ready) = Static ready.digits ready.presentation
 translated (held.Live session) = Live session
 
--- ---- what is written of an MPD, or its first refusal
+-- ---- what is written for an MPD, or its first error
 
 abbrev pub terms_at : HlsJob → (url : List ℕ) → Terms
 terms_at job url = record { url = url; digits = job.digits }
@@ -41,7 +42,7 @@ translation_by job url mpd = if mpd.facts.live then live_translation job url job
 unfoldable pub translation_of : HlsJob → (url bytes : List ℕ) → Result Translation Refusal
 translation_of job url bytes = and_then (values_of bytes) (translation_by job url)
 
--- the MPD is the file at this place
+-- the MPD is the file at this location
 unfoldable pub translation_at : HlsJob → StorePlace → Files → Result Translation Named
 translation_at job place files =
     and_then (content_of place.file files) (λ bytes. of_file place.file (translation_of job place.url bytes))
@@ -52,7 +53,7 @@ abbrev pub files_of : (out : List ℕ) → Translation → List (List ℕ × Lis
 files_of out (Static digits p) = playlists out digits p
 files_of out (Live s) = live_files out s
 
--- the presentation that is told: of a live MPD what it lists at the instant
+-- the reported presentation: for a live MPD what it lists at the time
 abbrev pub presented_in : Translation → Presented
 presented_in (Static digits p) = p
 presented_in (Live s) = s.common.opened
@@ -63,7 +64,7 @@ line_of translation = done_line (presented_in translation)
 abbrev pub outcome_of : HlsJob → Result Translation Named → Outcome
 outcome_of job read = outcome_written (files_of job.out) line_of read
 
--- the MPD is at this place
+-- the MPD is at this location
 abbrev pub hls_at : HlsJob → Option Files → StorePlace → Option Outcome
 hls_at job files place = option_map (λ files. outcome_of job (translation_at job place files)) files
 

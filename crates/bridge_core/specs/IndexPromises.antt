@@ -1,4 +1,4 @@
--- What `hls-index` promises of the files that it writes.
+-- What `hls-index` guarantees for the files that it writes.
 use Rattle.bridge_jobs.specs.declared.jobs.Job.TheVariants as jobs
 use Rattle.bridge_courses.specs.declared.status.Status.TheVariants as status
 use Rattle.std.specs.Prelude.{◌≡◌, ℕ, ◌^◌, List, ◌++◌, codes, Option, Some}
@@ -12,12 +12,12 @@ use Rattle.meaning.specs.{Meanings.Meaning, Same.SameFloor}
 use Rattle.bridge_report.specs.Bases.{file_url}
 use Rattle.bridge_core.specs.Courses.{course_of}
 
--- where the master lies
+-- the URL of the master playlist
 abbrev pub master_url : IndexJob → List ℕ
 master_url job = job.base ++ in_folder job.out (codes "master.m3u8")
 
--- A job's MPD means something at its URL with the indexes of its media files (ISO/IEC 23009-1, 5.3.9.2), the master and its
--- playlists mean something (RFC 8216, 4.3), and that is the same but that each time is rounded down.
+-- The command's MPD has a meaning at its URL with the `sidx` of its media files (ISO/IEC 23009-1, 5.3.9.2), the written
+-- playlists have a meaning (RFC 8216, 4.3), and it is the same, except that each time is rounded down.
 pub record IndexMeansTheSame (job : IndexJob) (before after : Files) : Type 0 where
   pub bytes : List ℕ
   pub url : List ℕ
@@ -29,11 +29,11 @@ pub record IndexMeansTheSame (job : IndexJob) (before after : Files) : Type 0 wh
   pub written : hls_meaning after job.base (master_url job) ≡ Some playlists
   pub same : SameFloor (10 ^ job.digits) indexes playlists
 
--- the words ask for the playlists of an MPD and the indexes of its files
+-- the command line asks for the playlists of an MPD and the `sidx` of its files
 abbrev pub AsksForIndex : (words : List (List ℕ)) → IndexJob → Type 0
 AsksForIndex words job = job_of words ≡ Some (jobs.HlsIndex job)
 
--- Where such a run is done, what it wrote means what the MPD and the indexes mean.
+-- Where such a run succeeds, what it wrote means what the MPD and the `sidx` mean.
 abbrev pub WrittenMeansTheIndexes : Type 0
 WrittenMeansTheIndexes = (words : List (List ℕ)) (job : IndexJob) (input : Option (List ℕ)) (course : Course) (before after : World)
     (first last : Files)

@@ -1,4 +1,4 @@
--- From a made MPD to playlists.
+-- From a generated MPD to playlists.
 use Rattle.bridge_courses.specs.declared.status.Verdict.TheVariants as verdict
 use Rattle.std.specs.Prelude.{ℕ, ◌^◌, ◌&&◌, nat_lt, false, List, ◌∷◌, ◌++◌, length, codes, if◌then◌else◌, Option, Some, None, Result, Ok}
 use Rattle.std.specs.Prelude.{Err}
@@ -14,7 +14,7 @@ use Rattle.bridge_core.specs.Source.{source_text}
 
 -- ---- the report
 
--- how long a track is in the first section, in units of which so many make a second, and 0 where there is no such track
+-- the duration of a track in the first section, given the units per second, and 0 where there is no such track
 abbrev pub length_at : (unit : ℕ) → Presented → (track : ℕ) → ℕ
 length_at unit p track = if nat_lt track (length p.tracks) && nat_lt 0 (length p.sections) then length_of unit (listed_at p 0 track) else 0
 
@@ -46,7 +46,7 @@ abbrev pub outcome_of : MakeJob → Result Presented Named → Outcome
 outcome_of job (Ok p) = Writes (made_files job p) (made_line job.digits p) false
 outcome_of job (Err named) = Ends verdict.Refused (refusal_line named.0 named.1) false false
 
--- the presentation of the MPD as if it were at this place
+-- the presentation of the MPD as if it were at this location
 abbrev pub made_presentation : MakeJob → StorePlace → Result Presented Named
 made_presentation job place = mpd_in (Some NotStatic) (10 ^ job.digits) None place (source_text job.seed)
 

@@ -1,4 +1,4 @@
--- What `hls` and `dash` promise of the files that they write, and `check` of those that it reads.
+-- What `hls` and `dash` guarantee for the files that they write, and `check` for those that it reads.
 use Rattle.bridge_jobs.specs.declared.jobs.Job.TheVariants as jobs
 use Rattle.bridge_courses.specs.declared.status.Status.TheVariants as status
 use Rattle.std.specs.Prelude.{◌≡◌, ℕ, ℤ, ◌^◌, List, ◌++◌, codes, Option, Some, None}
@@ -14,12 +14,12 @@ use Rattle.bridge_playlists.specs.{declared.place.StorePlace.StorePlace, Places.
 use Rattle.bridge_core.specs.{Check.differ_line, Courses.course_of}
 use Rattle.bridge_report.specs.Bases.{file_url}
 
--- where the master lies
+-- the URL of the master playlist
 abbrev pub master_url : HlsJob → List ℕ
 master_url job = job.base ++ in_folder job.out (codes "master.m3u8")
 
--- A job's MPD means something at its URL (ISO/IEC 23009-1, 5.3), the master and its playlists mean something
--- (RFC 8216, 4.3), and that is the same but that each time is rounded down.
+-- The command's MPD has a meaning at its URL (ISO/IEC 23009-1, 5.3), the written playlists have a meaning (RFC 8216, 4.3),
+-- and it is the same, except that each time is rounded down.
 pub record MeansTheSame (job : HlsJob) (before after : Files) : Type 0 where
   pub bytes : List ℕ
   pub url : List ℕ
@@ -31,11 +31,11 @@ pub record MeansTheSame (job : HlsJob) (before after : Files) : Type 0 where
   pub written : hls_meaning after job.base (master_url job) ≡ Some playlists
   pub same : SameFloor (10 ^ job.digits) mpd playlists
 
--- the words ask for the playlists of an MPD
+-- the command line asks for the playlists of an MPD
 abbrev pub AsksFor : (words : List (List ℕ)) → HlsJob → Type 0
 AsksFor words job = job_of words ≡ Some (jobs.Hls job)
 
--- Where such a run is done, what it wrote means what the MPD means.
+-- Where such a run succeeds, what it wrote means what the MPD means.
 abbrev pub WrittenMeansTheMpd : Type 0
 WrittenMeansTheMpd = (words : List (List ℕ)) (job : HlsJob) (input : Option (List ℕ)) (course : Course) (before after : World)
     (first last : Files)
@@ -44,8 +44,8 @@ WrittenMeansTheMpd = (words : List (List ℕ)) (job : HlsJob) (input : Option (L
 
 -- ---- `dash`
 
--- A job's master and its playlists mean something (RFC 8216, 4.3), the MPD that is written means something at any URL and
--- instant (ISO/IEC 23009-1, 5.3), and that is the same.
+-- The command's master playlist and its media playlists have a meaning (RFC 8216, 4.3), the written MPD has a meaning at
+-- any URL and time (ISO/IEC 23009-1, 5.3), and it is the same.
 pub record MpdMeansTheSame (job : MasterJob) (before after : Files) : Type 0 where
   pub place : StorePlace
   pub at : store_place_of job.base job.master ≡ Some place
@@ -57,11 +57,11 @@ pub record MpdMeansTheSame (job : MasterJob) (before after : Files) : Type 0 whe
   pub told : (url : List ℕ) (now : Option ℤ) → dash_meaning text url now ≡ Some mpd
   pub same : SameExact playlists mpd
 
--- the words ask for the MPD of playlists
+-- the command line asks for the MPD of playlists
 abbrev pub AsksForMpd : (words : List (List ℕ)) → MasterJob → Type 0
 AsksForMpd words job = job_of words ≡ Some (jobs.Dash job)
 
--- Where such a run is done, the MPD that it wrote means what the playlists mean.
+-- Where such a run succeeds, the MPD that it wrote means what the playlists mean.
 abbrev pub WrittenMpdMeansThePlaylists : Type 0
 WrittenMpdMeansThePlaylists = (words : List (List ℕ)) (job : MasterJob) (input : Option (List ℕ)) (course : Course) (before after : World)
     (first last : Files)
@@ -70,7 +70,7 @@ WrittenMpdMeansThePlaylists = (words : List (List ℕ)) (job : MasterJob) (input
 
 -- ---- `check`
 
--- A job's MPD means something at its URL (ISO/IEC 23009-1, 5.3), and its master and playlists mean something (RFC 8216, 4.3).
+-- The command's MPD has a meaning at its URL (ISO/IEC 23009-1, 5.3), and so have its playlists (RFC 8216, 4.3).
 pub record AreMeant (job : CheckJob) (files : Files) (mpd playlists : Meaning) : Type 0 where
   pub source : StorePlace
   pub source_at : store_place_of job.base job.mpd ≡ Some source
@@ -98,11 +98,11 @@ pub record AreApart (job : CheckJob) (files : Files) (line : List ℕ) : Type 0 
   pub found : first_difference (10 ^ job.digits) mpd playlists ≡ Some first
   pub told : line ≡ differ_line first
 
--- the words ask whether an MPD and playlists agree
+-- the command line asks whether an MPD and playlists agree
 abbrev pub AsksToCheck : (words : List (List ℕ)) → CheckJob → Type 0
 AsksToCheck words job = job_of words ≡ Some (jobs.Check job)
 
--- Where such a run is done, the MPD and the playlists agree.
+-- Where such a run succeeds, the MPD and the playlists agree.
 abbrev pub DoneIsAgreed : Type 0
 DoneIsAgreed =
     (words : List (List ℕ)) (job : CheckJob) (input : Option (List ℕ)) (course : Course) (before after : World) (files : Files)
@@ -110,7 +110,8 @@ DoneIsAgreed =
     → before.files ≡ Some files
     → course_of words (Some files) input ≡ Some course → IsExecution course status.Done before after → AreAgreed job files
 
--- Where it ends as Differ, they don't, and its line, of which the report may have a front, tells where they differ first.
+-- Where it ends as `Differ`, they don't, and its line, of which the report may have only a prefix, has their first
+-- difference.
 abbrev pub DifferIsApart : Type 0
 DifferIsApart =
     (words : List (List ℕ)) (job : CheckJob) (input : Option (List ℕ)) (course : Course) (before after : World) (files : Files)

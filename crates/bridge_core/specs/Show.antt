@@ -1,4 +1,4 @@
--- What is told of the tracks and sections of an MPD or of a master.
+-- Listing the tracks and sections of an MPD or of a master playlist.
 use Rattle.bridge_courses.specs.declared.status.Verdict.TheVariants as verdict
 use Rattle.std.specs.Prelude.{ℕ, ◌^◌, ◌==◌, ◌&&◌, ◌||◌, nat_le, Bool, false, List, [], ◌∷◌, length, codes, drop, slice_index, if◌then◌else◌}
 use Rattle.std.specs.Prelude.{Option, None, option_map, Result, Ok}
@@ -16,12 +16,12 @@ use Rattle.bridge_steps.specs.{Endings.placed, Listing.shown, Manifests.mpd_in}
 abbrev pub is_white : ℕ → Bool
 is_white byte = byte == 32 || byte == 9 || byte == 10 || byte == 13
 
--- the first byte behind white space is `<`
+-- the first byte after white space is `<`
 abbrev pub begins_with_tag : List ℕ → Bool
 begins_with_tag [] = false
 begins_with_tag (byte ∷ bytes) = if is_white byte then begins_with_tag bytes else byte == 60
 
--- a byte order mark stands first
+-- there is a leading byte order mark
 abbrev pub has_mark : List ℕ → Bool
 has_mark bytes = nat_le 3 (length bytes) && (slice_index bytes 0 == 239 && (slice_index bytes 1 == 187 && slice_index bytes 2 == 191))
 
@@ -47,7 +47,7 @@ unfoldable pub shown_at : ShowJob → StorePlace → Files → Result (Verdict �
 shown_at job place files =
     and_then (content_of place.file files) (λ bytes. if is_mpd bytes then mpd_told job place bytes else master_told job place files bytes)
 
--- the file is at this place
+-- the file is at this location
 abbrev pub show_at : ShowJob → Option Files → StorePlace → Option Outcome
 show_at job files place = option_map (λ files. outcome_told (shown_at job place files)) files
 

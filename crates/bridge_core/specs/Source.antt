@@ -1,12 +1,12 @@
--- The text of a made MPD.
+-- The text of a generated MPD.
 use Rattle.std.specs.{Prelude.{ℕ, ◌+◌, ◌*◌, ◌%◌, ◌==◌, List, ◌++◌, codes, decimal, flat_map, if◌then◌else◌}, List.range_with_len}
 use Rattle.bridge_core.specs.{declared.source.Side.Side, declared.source.Side.TheVariants.{Video, Audio}}
 
--- a hundred segments of so many ticks
+-- a hundred segments of a number of ticks
 unfoldable pub run_text : (ticks : ℕ) → List ℕ
 run_text ticks = codes "<S d=\"" ++ decimal ticks ++ codes "\" r=\"99\"/>\n"
 
--- the ticks of a segment in the run of this number, counted from the seed on
+-- the ticks of a segment in the run of this number, counted from the seed
 abbrev pub ticks_of : Side → (number : ℕ) → ℕ
 ticks_of Video number = 180000 + 1000 * (number % 7)
 ticks_of Audio number = if number % 2 == 0 then 96256 else 95232
@@ -14,7 +14,7 @@ ticks_of Audio number = if number % 2 == 0 then 96256 else 95232
 abbrev pub run_at : Side → (seed run : ℕ) → List ℕ
 run_at side seed run = run_text (ticks_of side (seed + run))
 
--- so many runs
+-- `count` runs
 unfoldable pub runs_text : Side → (seed count : ℕ) → List ℕ
 runs_text side seed count = flat_map (run_at side seed) (range_with_len 0 count)
 
@@ -31,7 +31,7 @@ set_head Audio =
     "<SegmentTemplate timescale=\"48000\" initialization=\"$RepresentationID$/i.mp4\" media=\"$RepresentationID$/$Number%06d$.m4s\">\n"
     ++ codes "<SegmentTimeline>\n"
 
--- the lines behind them
+-- the lines after them
 abbrev pub set_tail : Side → List ℕ
 set_tail Video =
     codes "</SegmentTimeline>\n</SegmentTemplate>\n"
@@ -47,7 +47,7 @@ set_tail Audio =
 unfoldable pub set_text : Side → (seed : ℕ) → List ℕ
 set_text side seed = set_head side ++ runs_text side seed 200 ++ set_tail side
 
--- a static MPD of one Period with a set of video and a set of audio
+-- a static MPD with one Period, an AdaptationSet of video and one of audio
 unfoldable pub source_text : (seed : ℕ) → List ℕ
 source_text seed =
     codes

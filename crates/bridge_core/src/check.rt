@@ -1,4 +1,4 @@
-// Whether an MPD and a master with its playlists agree.
+// Whether an MPD and a master playlist with its media playlists agree.
 ghost use Rattle.std.specs.Prelude.{◌≡◌, ◌≢◌, ◌^◌, Ok, IfOk, true};
 ghost use Rattle.bridge_courses.specs.declared.status.Status.TheVariants as status;
 ghost use Rattle.bridge_courses.specs.Executions.{status_by};
@@ -20,8 +20,8 @@ use meaning::{Aspect, Difference};
 use presentation::Presentation;
 use std::alloc::Global;
 
-/// Tells whether the playlists of a job's master mean what its MPD means, or where they differ first, unless one of the files is
-/// refused. Nothing is written.
+/// Reports whether the command's master playlist and its media playlists mean what its MPD means, or their first difference,
+/// unless one of the files is rejected. Nothing is written.
 #[tactic(auto, unfolding(crate::specs::Check::check_outcome))]
 pub fn run<F: Store, L: Ledger>(
     alloc: Global,
@@ -39,7 +39,7 @@ pub fn run<F: Store, L: Ledger>(
     }
 }
 
-/// Where the MPD and the master of a job lie.
+/// The locations of the command's MPD and master playlist.
 #[tactic(auto, unfolding(crate::specs::Check::places_of))]
 fn places_of(alloc: Global, job: &CheckJob) -> Result<(StorePlace, StorePlace), Ending>
     ensures { IsPlaced (spec.places_of job.now) result }
@@ -49,7 +49,7 @@ fn places_of(alloc: Global, job: &CheckJob) -> Result<(StorePlace, StorePlace), 
     Ok((mpd, master))
 }
 
-/// What is told of the MPD and the master at these places, or why a file isn't read.
+/// The report on the MPD and the master playlist at these locations, or why a file isn't read.
 #[tactic(auto, unfolding(crate::specs::Check::judged))]
 fn judged<F: Store, L: Ledger>(
     alloc: Global,
@@ -68,7 +68,7 @@ fn judged<F: Store, L: Ledger>(
     Ok(compared(alloc, &ready, &playlists, steps)?)
 }
 
-/// What is told of an MPD and of playlists.
+/// The report on an MPD and playlists.
 fn compared<L: Ledger>(
     alloc: Global,
     mpd: &Ready,

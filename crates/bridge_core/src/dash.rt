@@ -15,7 +15,7 @@ use dash_writer::write_mpd;
 use presentation::Presentation;
 use std::alloc::Global;
 
-/// Writes the MPD of a job's master and its playlists, unless one of them is refused.
+/// Writes the MPD for the command's master playlist and its media playlists, unless one of them is rejected.
 #[tactic(auto, unfolding(crate::specs::Dash::dash_outcome))]
 pub fn run<F: Store, L: Ledger>(
     alloc: Global,

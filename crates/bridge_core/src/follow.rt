@@ -1,4 +1,4 @@
-// From the frames of a live MPD to playlists that slide.
+// From the updates of a live MPD to live (sliding-window) playlists.
 ghost use Rattle.std.specs.Prelude.{◌≡◌};
 ghost use Rattle.bridge_courses.specs.Steps.{IsCaused};
 ghost use Rattle.bridge_steps.specs.Follow.{RunsAs, world_of};
@@ -11,7 +11,7 @@ use bridge_live::LiveMpd;
 use bridge_steps::{follow, place_in};
 use std::alloc::Global;
 
-/// Works off the frames of the input: each accepted one's playlists are written, and each one has a line.
+/// Processes the update frames of the input: the playlists of each accepted one are written, and each one has a line.
 #[tactic(auto, unfolding(crate::specs::Follow::followed_course))]
 pub fn run<I: Source, F: Store, P: Sink, L: Ledger>(
     alloc: Global,

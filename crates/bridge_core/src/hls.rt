@@ -27,17 +27,17 @@ use presentation::PresentationFault;
 use std::alloc::Global;
 use url_parts::Base;
 
-/// What is written of an MPD.
+/// What is written for an MPD.
 #[derive(Drop)]
 pub enum Translation {
     /// The presentation of a static one.
     Static(Ready),
-    /// Of a live one what it leaves as the first frame of a stream.
+    /// The session of a live one, as after the first update frame of a stream.
     Live(Session),
 }
 
-/// Writes the playlists of a job's MPD, unless it is refused. Of a live one they are those that `follow` writes behind a first
-/// frame at the job's instant.
+/// Writes the playlists for the command's MPD, unless it is rejected. For a live one they are those that `follow` writes after
+/// a first update frame at the command's time.
 #[tactic(auto, unfolding(crate::specs::Hls::hls_outcome))]
 pub fn run<F: Store, L: Ledger>(
     alloc: Global,
@@ -58,8 +58,8 @@ pub fn run<F: Store, L: Ledger>(
     }
 }
 
-/// What is written of the MPD at a place, or why it isn't read. [`Halt::ReadFault`] comes only where the store's count of failed
-/// reads rose.
+/// What is written for the MPD at a location, or why it isn't read. [`Halt::ReadFault`] comes only where the store's count of
+/// failed reads rose.
 #[tactic(auto, unfolding(crate::specs::Hls::translation_at))]
 fn translation_at<F: Store, L: Ledger>(
     alloc: Global,
@@ -79,7 +79,7 @@ fn translation_at<F: Store, L: Ledger>(
     }
 }
 
-/// What is written of an MPD, or its first refusal.
+/// What is written for an MPD, or its first error.
 #[tactic(auto, unfolding(crate::specs::Hls::translation_of, crate::specs::Hls::static_translation))]
 fn translation_of<L: Ledger>(
     alloc: Global,
@@ -99,7 +99,7 @@ fn translation_of<L: Ledger>(
     Ok(Translation::Static(ready))
 }
 
-/// What is written of a live MPD at the job's instant.
+/// What is written for a live MPD at the command's time.
 #[tactic(auto, unfolding(crate::specs::Hls::live_translation))]
 fn live_translation<L: Ledger>(
     alloc: Global,
@@ -139,7 +139,7 @@ fn write<F: Store, L: Ledger>(
     )
 }
 
-/// The line that tells what is written.
+/// The report line for what is written.
 fn line_of(alloc: Global, translation: &Translation) -> Result<Text, NoMemory>
     ensures { IfOk result (λ line. line ≡ spec.line_of (spec.translated translation.now)) }
 {
@@ -149,7 +149,7 @@ fn line_of(alloc: Global, translation: &Translation) -> Result<Text, NoMemory>
     }
 }
 
-/// Writes the files of an MPD, the master last.
+/// Writes the files of an MPD, the master playlist last.
 fn write_files<F: Store, L: Ledger>(
     alloc: Global,
     out: &Name,

@@ -20,9 +20,9 @@ use laws_of_reloads::first_files_mean_the_same;
 use meaning::agreeing_has_no_difference;
 use mpd_presentation::presentations_mean_their_mpd;
 
-/// Where a run of `hls` is done, the master and the playlists that it wrote mean what the MPD means, a live one at the job's
-/// instant: the same tracks, addresses and ranges in order, and each time rounded down to the unit of the printed durations
-/// (ISO/IEC 23009-1, 5.3; RFC 8216, 4.3).
+/// Where a run of `hls` succeeds, the playlists that it wrote mean what the MPD means, a live one at the command's time: the
+/// same tracks, URLs and byte ranges in order, and each time rounded down to the unit of the printed durations (ISO/IEC
+/// 23009-1, 5.3; RFC 8216, 4.3).
 pub fn what_is_written_means_the_mpd()
     ensures { WrittenMeansTheMpd }
 {
@@ -37,9 +37,9 @@ pub fn what_is_written_means_the_mpd()
     tracks_are_writable();
 }
 
-/// Where a run of `hls-index` is done, the master and the playlists that it wrote mean what the MPD means with the indexes of its
-/// media files: the same tracks, addresses and ranges in order, and each time rounded down to the unit of the printed durations
-/// (ISO/IEC 23009-1, 5.3.9.2; RFC 8216, 4.3).
+/// Where a run of `hls-index` succeeds, the playlists that it wrote mean what the MPD means with the `sidx` of its media files:
+/// the same tracks, URLs and byte ranges in order, and each time rounded down to the unit of the printed durations (ISO/IEC
+/// 23009-1, 5.3.9.2; RFC 8216, 4.3).
 pub fn what_is_written_means_the_indexes()
     ensures { WrittenMeansTheIndexes }
 {
@@ -53,8 +53,8 @@ pub fn what_is_written_means_the_indexes()
     written_indexes_mean_the_same();
 }
 
-/// Where a run of `dash` is done, the MPD that it wrote means, at any URL and instant, what the master and its playlists mean:
-/// the same tracks, addresses and ranges in order, at equal times (RFC 8216, 4.3; ISO/IEC 23009-1, 5.3).
+/// Where a run of `dash` succeeds, the MPD that it wrote means, at any URL and time, what the master playlist and its media
+/// playlists mean: the same tracks, URLs and byte ranges in order, at equal times (RFC 8216, 4.3; ISO/IEC 23009-1, 5.3).
 pub fn what_is_written_means_the_playlists()
     ensures { WrittenMpdMeansThePlaylists }
 {
@@ -68,9 +68,9 @@ pub fn what_is_written_means_the_playlists()
     written_mpds_mean_the_same();
 }
 
-/// Where a run of `check` is done, the MPD means what the master and its playlists mean, but that each time may be rounded
-/// down to the unit of the printed durations. Where it ends as Differ, it does not, and the run's line tells where the two
-/// meanings differ first (ISO/IEC 23009-1, 5.3; RFC 8216, 4.3).
+/// Where a run of `check` succeeds, the MPD means what the master playlist and its media playlists mean, except that each
+/// time may be rounded down to the unit of the printed durations. Where it ends as `Differ`, it does not, and the run's
+/// line has the first difference of the two meanings (ISO/IEC 23009-1, 5.3; RFC 8216, 4.3).
 pub fn what_is_checked_agrees()
     ensures done { DoneIsAgreed }
     ensures differ { DifferIsApart }
@@ -82,9 +82,8 @@ pub fn what_is_checked_agrees()
     agreeing_has_no_difference();
 }
 
-/// Where a run of `dash-times` is done, the files are the former ones with its MPD, in which each SegmentList counts in the timescale
-/// that its initialization part states, and each segment begins at the decode time that its own file states (ISO/IEC 14496-12,
-/// 8.4.2 and 8.8.12).
+/// Where a run of `dash-times` succeeds, the files are the previous ones plus its MPD, in which each SegmentList has the timescale of
+/// its init segment, and each segment begins at the decode time of its own file (ISO/IEC 14496-12, 8.4.2 and 8.8.12).
 pub fn what_is_timed_has_the_files_times()
     ensures { WrittenHasTheFilesTimes }
 {
@@ -93,9 +92,9 @@ pub fn what_is_timed_has_the_files_times()
     what_is_written_has_the_files_times();
 }
 
-/// Where a run of `agree` is done, each listed segment of its MPD begins, with the presentation time offset added, at the decode
-/// time that its file states over the timescale of its track's media. Where it ends as Differ, the run's line tells the first one,
-/// by section, track and place, that doesn't.
+/// Where a run of `agree` succeeds, the start of each listed segment of its MPD plus the presentation time offset is its file's
+/// decode time over the timescale of its track's media. Where it ends as `Differ`, the run's line has the first one, by section,
+/// track and index, for which this doesn't hold.
 pub fn what_agrees_begins_as_its_files_state()
     ensures done { DoneHasTheFilesTimes }
     ensures differ { DifferHasAnother }

@@ -1,4 +1,4 @@
-//! The jobs of the manifest bridge and its top call.
+//! The commands of the manifest bridge and its top call.
 #![tactic(auto)]
 
 mod check;

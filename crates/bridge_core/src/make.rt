@@ -1,4 +1,4 @@
-// From a made MPD to playlists.
+// From a generated MPD to playlists.
 ghost use Rattle.std.specs.Prelude.{◌≡◌, ◌^◌, ◌++◌, Ok, Some, IfOk, OnOk, OnErr};
 ghost use Rattle.std.specs.String.{string_bytes};
 ghost use Rattle.bridge_io.specs.Fault.{HasCause};
@@ -22,13 +22,13 @@ use hls_writer::OutFault;
 use presentation::answers_allow_listings;
 use std::alloc::{AllocError, Global};
 
-/// The URL of the folder that the MPD is thought to be in.
+/// The assumed URL of the MPD's folder.
 const BASE: &str = "https://make.example/";
 
 /// The MPD's file.
 const SOURCE: &str = "source.mpd";
 
-/// Writes the MPD that is made from a job's seed, and then its playlists. Nothing is read.
+/// Writes the MPD that is generated from the command's seed, and then its playlists. Nothing is read.
 #[tactic(auto, unfolding(crate::specs::Make::make_outcome))]
 pub fn run<F: Store, L: Ledger>(
     alloc: Global,
@@ -64,7 +64,7 @@ fn bytes_of(alloc: Global, text: &Text) -> Result<Bytes, NoMemory>
     Ok(Bytes::from(bytes))
 }
 
-/// Where the MPD is thought to lie.
+/// The assumed location of the MPD.
 fn source_place(alloc: Global) -> Result<StorePlace, Ending>
     ensures { IsPlaced spec.source_place result }
 {
@@ -182,7 +182,8 @@ fn push_lengths(
     Ok(())
 }
 
-/// How long a track is in the first section, in units of the last decimal of a second, and 0 where there is no such track.
+/// The duration of a track in the first section, in units of the last decimal of a second, and 0 where there is no such
+/// track.
 fn length_at(ready: &Ready, track: usize) -> u128
     ensures { result ≡ spec.length_at (10 ^ ready.now.digits) ready.now.presentation track }
 {

@@ -21,22 +21,23 @@ use bridge_playlists::run_reload;
 use bridge_reach::{run_agree, run_dash_times, run_follow_hls, run_hls_index};
 use std::alloc::Global;
 
-/// Runs the command that the words are, without the program's own name: it reads and writes the files of the store,
-/// and reports how it ends, in one line but for `show`, `follow` and `follow-hls`. The input is left as it was, but for these two last.
+/// Runs the command of a command line, without the program's own name: it reads and writes the files of the store, and reports how it
+/// ends, in one line except for `show`, `follow` and `follow-hls`. Only the last two read the input.
 ///
-/// `hls` writes the playlists of an MPD, `t0.m3u8` and so on for each track and `master.m3u8` for all, to a folder, the master last; of
-/// a live one those that `follow` would write of it at an instant. `hls-index` writes the same of an MPD whose media files have an index
-/// inside, and of these files. `dash` writes the MPD of a master and its playlists, `manifest.mpd`, and `dash-times` the same with the
-/// times that the media files state. None of them writes anything before every refusal is ruled out. `make` writes an MPD that is made
-/// from a seed, `source.mpd`, and then what `hls` writes of it, and reads nothing.
+/// `hls` writes the playlists for an MPD, `t0.m3u8` and so on for each track and `master.m3u8` for all, to a folder, the master playlist
+/// last; for a live one those that `follow` would write for it at a given time. `hls-index` writes the same for an MPD whose media files
+/// have a `sidx`, and for these files. `dash` writes the MPD for a master playlist and its media playlists, `manifest.mpd`, and
+/// `dash-times` the same with the decode times of the media files. None of them writes anything before all input is validated. `make`
+/// writes an MPD that is generated from a seed, `source.mpd`, and then what `hls` writes for it, and reads nothing.
 ///
-/// `follow` reads frames from the input, each a version of a live MPD or an instant, and after each accepted one writes the playlists
-/// again, which slide; it reads nothing of the store. `follow-hls` reads a master and then rounds of its live playlists from the input,
-/// and after each accepted one writes the live MPD again, `live.mpd`. Each frame and each round has a line.
+/// `follow` reads update frames from the input, each a version of a live MPD or only a time, and after each accepted one writes the live
+/// playlists again; it reads nothing from the store. `follow-hls` reads a master playlist and then snapshots of its live media playlists
+/// from the input, and after each accepted one writes the live MPD again, `live.mpd`. Each update frame and each snapshot has a line.
 ///
-/// `show` tells the tracks and sections of an MPD or of a master, a line for each track in each section. `check` tells whether an MPD
-/// and a master agree, or where they differ first, and `agree` whether an MPD has the times that its media files state. `reload` reads
-/// two media playlists and tells whether the second may take the first one's place, or the first rule that it breaks.
+/// `show` lists the tracks and sections of an MPD or of a master playlist, a line for each track in each section. `check` reports
+/// whether an MPD and a master playlist agree, or their first difference, and `agree` whether an MPD has the decode times of its media
+/// files. `reload` reads two media playlists and reports whether the second is a valid update of the first, or the first rule that it
+/// breaks.
 pub fn bridge<I: Source, F: Store, P: Sink, L: Ledger>(
     alloc: Global,
     words: &[Text],
@@ -45,31 +46,32 @@ pub fn bridge<I: Source, F: Store, P: Sink, L: Ledger>(
     report: &mut P,
     steps: &mut Steps<L>,
 ) -> Status
-    // The run does what the words, the store's files and the input say, unless a fault or want of memory ends it.
+    // The run does what the command line, the store's files and the input say, unless an I/O error or out of memory
+    // ends it.
     ensures run { ForSome (course_of words.now (F.files store.old) (I.remaining input.old)) (λ course. IsExecution course result
         (world_of I.Source F.Store P.Sink input.old store.old report.old steps.old)
         (world_of I.Source F.Store P.Sink input.new store.new report.new steps.new)) }
 
-    // Where no count of faults rose, it ends as its course, or for want of memory.
+    // Where no count of faults rose, it ends as its course says, or out of memory.
     ensures complete { ForSome (course_of words.now (F.files store.old) (I.remaining input.old)) (λ course. IsCalm
         (world_of I.Source F.Store P.Sink input.old store.old report.old steps.old)
         (world_of I.Source F.Store P.Sink input.new store.new report.new steps.new)
         → (result ≡ status_by course.end.verdict) ⊎ (result ≡ status.Memory)) }
 
-    // Words are told only of words that are no job, whatever the store tells.
+    // `Words` is returned only for a usage error, whatever the store contains.
     ensures words { result ≡ status.Words → job_of words.now ≡ None }
 
-    // A fault has a cause: of reading in what the job reads.
+    // A read error has a cause, in what the command reads.
     ensures read_fault { result ≡ status.ReadFault → ReadRose (job_of words.now) (I.faults input.old) (I.faults input.new)
         (F.read_faults store.old) (F.read_faults store.new) }
     ensures write_fault { result ≡ status.WriteFault → Rose (F.write_faults store.old) (F.write_faults store.new)
         ⊎ Rose (P.faults report.old) (P.faults report.new) }
 
-    // How it ends is told, whatever the store tells.
+    // The end is reported, whatever the store contains.
     ensures told { TellsItsEnd result (P.faults report.old) (P.faults report.new) (P.written report.old) (P.written report.new) }
 
-    // The input is read by a job that follows alone, the store never by one that follows an MPD nor by one that makes one, and
-    // never written by one that only tells something of its files.
+    // The input is read only by a command that follows, the store never by one that follows an MPD or generates one, and never
+    // written by one that only reports on its files.
     ensures input { (Follows (job_of words.now) → ⊥) → input.new ≡ input.old }
     ensures reads { ReadsNoFile (job_of words.now) → F.read_faults store.new ≡ F.read_faults store.old }
     ensures writes { WritesNoFile (job_of words.now) → F.write_faults store.new ≡ F.write_faults store.old }
@@ -78,7 +80,7 @@ pub fn bridge<I: Source, F: Store, P: Sink, L: Ledger>(
     tell(&ending, report)
 }
 
-/// Does what the words ask for.
+/// Does what the command line says.
 #[tactic(auto, unfolding(crate::specs::Courses::course_of))]
 fn work<I: Source, F: Store, P: Sink, L: Ledger>(
     alloc: Global,
@@ -133,7 +135,7 @@ fn run_job<I: Source, F: Store, P: Sink, L: Ledger>(
     }
 }
 
-/// The same of a job that is handed over.
+/// The same for a command that is passed by value.
 fn run_owned<F: Store, L: Ledger>(
     alloc: Global,
     job: Job,
@@ -152,7 +154,7 @@ fn run_owned<F: Store, L: Ledger>(
     ending
 }
 
-/// Runs a command that reads all before it writes, and leaves the input and the report.
+/// Runs a command that reads everything before it writes, without using the input or the report.
 fn run_command<F: Store, L: Ledger>(
     alloc: Global,
     job: &Job,

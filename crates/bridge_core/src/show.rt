@@ -1,4 +1,4 @@
-// What is told of the tracks and sections of an MPD or of a master.
+// Listing the tracks and sections of an MPD or of a master playlist.
 ghost use Rattle.std.specs.Prelude.{◌≡◌, ◌≢◌, Ok, IfOk};
 ghost use Rattle.bridge_courses.specs.declared.status.Status.TheVariants as status;
 ghost use Rattle.bridge_courses.specs.Executions.{status_by};
@@ -18,8 +18,8 @@ use exact_time::Digits;
 use presentation::Presentation;
 use std::alloc::Global;
 
-/// Tells the tracks and sections of a job's manifest, unless it is refused: how many segments each track has in each section, and
-/// how long they last. Nothing is written.
+/// Lists the tracks and sections of the command's manifest, unless it is rejected: the number and the total duration of each
+/// track's segments in each section. Nothing is written.
 #[tactic(auto, unfolding(crate::specs::Show::show_outcome))]
 pub fn run<F: Store, L: Ledger>(
     alloc: Global,
@@ -37,7 +37,7 @@ pub fn run<F: Store, L: Ledger>(
     }
 }
 
-/// What is told of the manifest at a place, or why a file isn't read.
+/// The report on the manifest at a location, or why a file isn't read.
 #[tactic(auto, unfolding(crate::specs::Show::shown_at))]
 fn shown_at<F: Store, L: Ledger>(
     alloc: Global,
@@ -79,7 +79,7 @@ fn shown(
     Ok(Text::from(lines))
 }
 
-/// Whether a manifest is an MPD: the first byte behind a byte order mark and white space is `<`.
+/// Whether a manifest is an MPD: the first byte after a byte order mark and white space is `<`.
 fn is_mpd(bytes: &[u8]) -> bool
     ensures { result ≡ spec.is_mpd bytes.now }
 {
@@ -92,7 +92,7 @@ fn without_mark(bytes: &[u8]) -> &[u8]
     if has_mark(bytes) { &bytes[3..] } else { bytes }
 }
 
-/// Whether a byte order mark stands first.
+/// Whether there is a leading byte order mark.
 fn has_mark(bytes: &[u8]) -> bool
     ensures { result ≡ spec.has_mark bytes.now }
 {

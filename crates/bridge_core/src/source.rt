@@ -1,4 +1,4 @@
-// The text of a made MPD.
+// The text of a generated MPD.
 ghost use Rattle.std.specs.Prelude.{◌≡◌, ◌≤◌, ◌++◌, IfOk, OnOk};
 ghost use Rattle.std.specs.String.{string_bytes};
 ghost use Rattle.bridge_core.specs.Source as spec;
@@ -51,7 +51,7 @@ impl Side {
         }
     }
 
-    /// The lines behind them.
+    /// The lines after them.
     fn tail(self) -> &'static str
         ensures { result.now ≡ spec.set_tail self }
     {
@@ -73,7 +73,7 @@ impl Side {
         }
     }
 
-    /// The ticks of a segment in the run of this number, counted from the seed on.
+    /// The ticks of a segment in the run of this number, counted from the seed.
     fn ticks(self, number: u64) -> u64
         ensures { result ≡ spec.ticks_of self number }
     {
@@ -85,8 +85,8 @@ impl Side {
     }
 }
 
-/// The text of the MPD that is made from a seed: a static one of one Period, in which each of four video tracks and two
-/// audio tracks has 20,000 segments.
+/// The text of the MPD that is generated from a seed: a static one with one Period, in which each of four video tracks
+/// and two audio tracks has 20,000 segments.
 #[tactic(auto, unfolding(crate::specs::Source::source_text))]
 pub fn source_text(alloc: Global, seed: u32) -> Result<Text, NoMemory>
     ensures { IfOk result (λ text. text ≡ spec.source_text seed) }
@@ -100,7 +100,7 @@ pub fn source_text(alloc: Global, seed: u32) -> Result<Text, NoMemory>
     Ok(Text::from(text))
 }
 
-/// Adds the lines of an AdaptationSet.
+/// Appends the lines of an AdaptationSet.
 #[tactic(auto, unfolding(crate::specs::Source::set_text))]
 fn push_set(text: &mut String, side: Side, seed: u32) -> Result<(), AllocError>
     ensures { OnOk result (string_bytes text.new ≡ string_bytes text.old ++ spec.set_text side seed) }
@@ -110,7 +110,7 @@ fn push_set(text: &mut String, side: Side, seed: u32) -> Result<(), AllocError>
     text.push_str(side.tail())
 }
 
-/// Adds so many S elements.
+/// Appends `count` S elements.
 #[tactic(auto, unfolding(crate::specs::Source::runs_text))]
 fn push_runs(text: &mut String, side: Side, seed: u32, count: u64) -> Result<(), AllocError>
     requires { count ≤ RUNS }
@@ -122,7 +122,7 @@ fn push_runs(text: &mut String, side: Side, seed: u32, count: u64) -> Result<(),
     Ok(())
 }
 
-/// Adds an S element of 100 segments (ISO/IEC 23009-1 5.3.9.6).
+/// Appends an S element of 100 segments (ISO/IEC 23009-1 5.3.9.6).
 #[tactic(auto, unfolding(crate::specs::Source::run_text))]
 fn push_run(text: &mut String, ticks: u64) -> Result<(), AllocError>
     ensures { OnOk result (string_bytes text.new ≡ string_bytes text.old ++ spec.run_text ticks) }

@@ -1,10 +1,10 @@
--- What a run does where nothing fails: steps one after another, and an end.
+-- What a run does where nothing fails: steps in order, and an end.
 use Rattle.std.specs.Prelude.{◌≡◌, ℕ, ◌+◌, ◌≤◌, Bool, IsTrue, List, [], ◌∷◌, ◌++◌, take, slice_get, flat_map, sum_by, Option, Some}
 use Rattle.bridge_io.specs.{Outside.{Files, Changes, Appends}, InOrder.put_all}
 use Rattle.bridge_courses.specs.declared.status.Verdict.{Verdict}
 
--- Files that are put in order, each a name and a text, and then lines of the report. `least` and `most` bound the
--- segments that are made for it. `reads` says that reading goes before it.
+-- Files that are written in order, each a name and a text, and then lines of the report. `least` and `most` bound the
+-- segments that are made for it. `reads` says that something is read before it.
 pub record Step : Type 0 where
   pub files : List (List ℕ × List ℕ)
   pub lines : List ℕ
@@ -12,19 +12,19 @@ pub record Step : Type 0 where
   pub most : ℕ
   pub reads : Bool
 
--- how a run ends that no fault and no want of memory ends, with its last lines
+-- how a run ends, apart from I/O errors and running out of memory, with its last lines
 pub record End : Type 0 where
   pub verdict : Verdict
   pub lines : List ℕ
   pub reads : Bool
 
--- `counts` says that the steps tell how many segments are made.
+-- `counts` says that the steps bound how many segments are made.
 pub record Course : Type 0 where
   pub steps : List Step
   pub end : End
   pub counts : Bool
 
--- what a run meets: what is told of it, its counts of faults, and how many segments were made
+-- the environment of a run: its I/O, its counts of faults, and how many segments were made
 pub record World : Type 0 where
   pub files : Option Files
   pub report : Option (List ℕ)
@@ -52,7 +52,7 @@ report_of course = flat_map (λ step. step.lines) course.steps ++ course.end.lin
 abbrev pub Makes : Course → (least most : ℕ) → (before after : World) → Type 0
 Makes course least most before after = IsTrue course.counts → (before.made + least ≤ after.made) × (after.made ≤ before.made + most)
 
--- The first n steps are done: their files put in order, their lines told, their segments made.
+-- The first n steps are done: their files written in order, their lines reported, their segments made.
 pub record Whole (n : ℕ) (course : Course) (before mid : World) : Type 0 where
   pub files : Changes (put_all (files_to n course)) before.files mid.files
   pub report : Appends (lines_to n course) before.report mid.report

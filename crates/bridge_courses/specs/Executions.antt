@@ -27,7 +27,7 @@ pub record FailsReading (course : Course) (before after : World) : Type 0 where
   pub made : Makes course 0 0 mid after
   pub report : after.report ≡ mid.report
 
--- the store failed while the files of a step were put
+-- the store failed while the files of a step were written
 pub record FailsWriting (course : Course) (before after : World) : Type 0 where
   pub mid : World
   pub step : Step
@@ -37,8 +37,8 @@ pub record FailsWriting (course : Course) (before after : World) : Type 0 where
   pub made : Makes course step.least step.most mid after
   pub report : after.report ≡ mid.report
 
--- Memory is wanting in a step or before the end: before its files, when some of its segments may be made, or when they all
--- are made and its files are begun, or all put.
+-- Memory ran out in a step or before the end: before its files, when some of its segments may be made, or when they all are
+-- made and its files are begun, or all written.
 pub record WantsMemory (course : Course) (before after : World) : Type 0 where
   pub mid : World
   pub step : Step
@@ -48,7 +48,7 @@ pub record WantsMemory (course : Course) (before after : World) : Type 0 where
       × Makes course step.least step.most mid after)
   pub report : after.report ≡ mid.report
 
--- The sink failed at the lines of a step, whose files are put. A front of the lines is told.
+-- The sink failed at the lines of a step, whose files are written. A prefix of the lines is reported.
 pub record FailsTelling (course : Course) (before after : World) : Type 0 where
   pub mid : World
   pub step : Step
@@ -78,7 +78,7 @@ pub record NeverFalls (before after : World) : Type 0 where
   pub writes : before.write_faults ≤ after.write_faults
   pub report : before.report_faults ≤ after.report_faults
 
--- ---- what is told of the end
+-- ---- how the end is reported
 
 abbrev pub status_by : Verdict → Status
 status_by verdict.Done = status.Done
@@ -86,7 +86,7 @@ status_by verdict.Refused = status.Refused
 status_by verdict.Words = status.Words
 status_by verdict.Differ = status.Differ
 
--- the status of an ending whose line is told
+-- the status of an ending whose line is reported
 abbrev pub status_of : Ending → Status
 status_of (ending.Ended end line) = status_by end
 status_of ending.Words = status.Words
@@ -96,13 +96,13 @@ status_of ending.Memory = status.Memory
 status_of (ending.Cut fail.Failed) = status.WriteFault
 status_of (ending.Cut fail.Memory) = status.Memory
 
--- the status where the sink fails at that line: work that was done is told by no other line
+-- the status where the sink fails at that line: success is reported by no other line
 abbrev pub status_untold : Ending → Status
 status_untold (ending.Ended verdict.Done line) = status.WriteFault
 status_untold (ending.Ended end line) = status_by end
 status_untold other = status_of other
 
--- the line of an ending; where the sink failed before, none is told
+-- the line of an ending; none where the sink failed before
 abbrev pub line_of : Ending → List ℕ
 line_of (ending.Ended end line) = line
 line_of ending.Words = words_line
@@ -111,20 +111,20 @@ line_of ending.WriteFault = codes "write fault\n"
 line_of ending.Memory = codes "out of memory\n"
 line_of (ending.Cut f) = []
 
--- the report got the ending's line, or a front of it where the sink failed or memory was wanting
+-- the report got the ending's line, or a prefix of it where the sink failed or memory ran out
 abbrev pub TellsAs : Ending → Status → (faults faults' : ℕ) → (report report' : Option (List ℕ)) → Type 0
 TellsAs told end f f' r r' =
     ((end ≡ status_of told) × Appends (line_of told) r r')
     ⊎ (((end ≡ status_untold told) × Rose f f' × AppendsFront (line_of told) r r')
     ⊎ ((end ≡ status.Memory) × AppendsFront (line_of told) r r'))
 
--- the end was told, and nothing else done
+-- the end was reported, and nothing else done
 pub record Tells (told : Ending) (end : Status) (before after : World) : Type 0 where
   pub same : after ≡ record before { report = after.report; report_faults = after.report_faults }
   pub told_as : TellsAs told end before.report_faults after.report_faults before.report after.report
   pub never_falls : before.report_faults ≤ after.report_faults
 
--- A run of a course may end with a status only so: its work ends, and then that is told.
+-- A run of a course may end with a status only like this: its work ends, and then that is reported.
 pub record IsExecution (course : Course) (end : Status) (before after : World) : Type 0 where
   pub how : Ending
   pub mid : World

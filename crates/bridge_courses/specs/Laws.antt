@@ -1,4 +1,4 @@
--- What each status of a run tells.
+-- What each status of a run implies.
 use Rattle.bridge_courses.specs.declared.status.Status.TheVariants as status
 use Rattle.bridge_courses.specs.declared.ending.Ending.TheVariants as ending
 use Rattle.std.specs.Prelude.{◌≡◌, ◌≢◌, ◌⊎◌, ℕ, suc, ◌+◌, ◌≤◌, IsTrue, List, [], ◌∷◌, ◌++◌, take, length, slice_get, sum_by, All, Option}
@@ -7,25 +7,25 @@ use Rattle.bridge_io.specs.{Fault.Rose, Outside.{Files, Changes, Appends, Append
 use Rattle.bridge_courses.specs.{declared.status.Status.Status, declared.status.Verdict.Verdict, Courses.{Step, Course, World, files_of}}
 use Rattle.bridge_courses.specs.{Courses.{files_to, lines_to, report_of, last_step, Reaches}, Executions.{IsExecution, status_by, line_of}}
 
--- the whole course is done: its files are put and its report is told
+-- the whole course is done: its files and its report are written
 pub record IsDone (course : Course) (before after : World) : Type 0 where
   pub files : Changes (put_all (files_of course)) before.files after.files
   pub report : Appends (report_of course) before.report after.report
 
--- a job that is done left the files of its course and told its whole report
+-- a successful run has written the files of its course and its whole report
 abbrev pub DoneIsWhole : Type 0
 DoneIsWhole = (course : Course) (before after : World) → IsExecution course status.Done before after → IsDone course before after
 
--- a run that a verdict ends, and no fault and no want of memory, left the files of all steps
+-- a run that ends with a verdict, not with an I/O error or out of memory, has written the files of all steps
 abbrev pub VerdictKeepsSteps : Type 0
 VerdictKeepsSteps = (course : Course) (v : Verdict) (before after : World) → IsExecution course (status_by v) before after →
     (v ≡ course.end.verdict) × Changes (put_all (files_of course)) before.files after.files
 
--- only a step that no files go before reads
+-- only steps before which no file is written read
 abbrev pub ReadsFirst : Course → Type 0
 ReadsFirst course = (before mid : World) (step : Step) → Reaches course before mid step → IsTrue step.reads → mid.files ≡ before.files
 
--- where reading goes before writing, a run that ends at a read fault wrote nothing
+-- where reading comes before writing, a run that ends with a read error wrote nothing
 abbrev pub ReadFaultKeepsFiles : Type 0
 ReadFaultKeepsFiles =
     (course : Course) (before after : World) → ReadsFirst course → IsExecution course status.ReadFault before after
@@ -47,12 +47,12 @@ pub record IsCalm (before after : World) : Type 0 where
   pub writes : Rose before.write_faults after.write_faults → ⊥
   pub report : Rose before.report_faults after.report_faults → ⊥
 
--- where no count of faults rose, a run ends as its course, or memory is wanting
+-- where no count of faults rose, a run ends as its course says, or out of memory
 abbrev pub IsComplete : Type 0
 IsComplete = (course : Course) (end : Status) (before after : World) → IsExecution course end before after → IsCalm before after →
     (end ≡ status_by course.end.verdict) ⊎ (end ≡ status.Memory)
 
--- a name that a file hasn't, nor any file of a step, nor any of a course
+-- a name other than that of a file, of all files of a step, and of all files of a course
 abbrev pub IsAnother : List ℕ → List ℕ × List ℕ → Type 0
 IsAnother name file = file.0 ≢ name
 
@@ -62,7 +62,7 @@ IsNotIn name step = All (IsAnother name) step.files
 abbrev pub IsElsewhere : List ℕ → Course → Type 0
 IsElsewhere name course = All (IsNotIn name) course.steps
 
--- however a run ends, every file that its course doesn't name is as before
+-- however a run ends, every file that its course doesn't name is unchanged
 abbrev pub OthersStay : Type 0
 OthersStay = (course : Course) (end : Status) (before after : World) (first last : Files) (name : List ℕ)
     → IsExecution course end before after →
@@ -70,8 +70,8 @@ OthersStay = (course : Course) (end : Status) (before after : World) (first last
 
 -- ---- step by step
 
--- Some first steps are done, and of the next one nothing, or some files are put and one may be begun, or all are put. Every
--- other file is as before.
+-- The files of some first steps are written, and of the next one none, or some and one may be begun, or all. Every other
+-- file is unchanged.
 pub record LeavesSteps (course : Course) (before after : Option Files) : Type 0 where
   pub n : ℕ
   pub mid : Option Files
@@ -80,33 +80,33 @@ pub record LeavesSteps (course : Course) (before after : Option Files) : Type 0 
   pub next : slice_get (course.steps ++ last_step course.end ∷ []) n ≡ Some step
   pub left : (after ≡ mid) ⊎ (AreBegun step.files mid after ⊎ Changes (put_all step.files) mid after)
 
--- however a run ends, it left the files of some first steps, and of the next one
+-- however a run ends, it has written the files of some first steps, and some of the next one
 abbrev pub ExecutionLeavesSteps : Type 0
 ExecutionLeavesSteps =
     (course : Course) (end : Status) (before after : World) → IsExecution course end before after
     → LeavesSteps course before.files after.files
 
--- a run that ends at a read fault left exactly the files of some first steps
+-- a run that ends with a read error has written exactly the files of some first steps
 abbrev pub ReadFaultLeavesSteps : Type 0
 ReadFaultLeavesSteps = (course : Course) (before after : World) → IsExecution course status.ReadFault before after →
     (n : ℕ) × Changes (put_all (files_to n course)) before.files after.files
 
--- so many segments were made: all those of some first steps, and some of the next one
+-- the number of segments made: all those of some first steps, and some of the next one
 pub record MadeSteps (course : Course) (before after : ℕ) : Type 0 where
   pub n : ℕ
   pub within : n ≤ length course.steps
   pub least : before + sum_by (λ step. step.least) (take n course.steps) ≤ after
   pub most : after ≤ before + sum_by (λ step. step.most) (take (suc n) course.steps)
 
--- however a run of a course that counts ends, it made the segments of some first steps, and some of the next one
+-- however a run of a counting course ends, it made the segments of some first steps, and some of the next one
 abbrev pub ExecutionMakesSteps : Type 0
 ExecutionMakesSteps = (course : Course) (end : Status) (before after : World) → IsTrue course.counts → IsExecution course end before after →
     MadeSteps course before.made after.made
 
--- ---- what is told
+-- ---- the report
 
--- Where the sink doesn't fail, a run that a verdict ends tells its whole report, and one that ends at a fault the lines of
--- some first steps and then its own.
+-- Where the sink doesn't fail, a run that ends with a verdict writes its whole report, and one that ends with an I/O error
+-- the lines of some first steps and then its own.
 abbrev pub VerdictTellsSteps : Type 0
 VerdictTellsSteps = (course : Course) (v : Verdict) (before after : World) → IsExecution course (status_by v) before after →
     (Rose before.report_faults after.report_faults → ⊥) → Appends (report_of course) before.report after.report
@@ -121,21 +121,21 @@ WriteFaultTellsSteps = (course : Course) (before after : World) → IsExecution 
     (Rose before.report_faults after.report_faults → ⊥) →
     (n : ℕ) × Appends (lines_to n course ++ line_of ending.WriteFault) before.report after.report
 
--- the line that tells a fault or want of memory; what a verdict tells is the end of its course
+-- the line of an I/O error or of out of memory; the lines of a verdict are the end of its course
 abbrev pub fault_line : Status → List ℕ
 fault_line status.ReadFault = line_of ending.ReadFault
 fault_line status.WriteFault = line_of ending.WriteFault
 fault_line status.Memory = line_of ending.Memory
 fault_line other = []
 
--- the report got a front of the course's, and then a front of a line
+-- the report got a prefix of the course's report, and then a prefix of a line
 pub record TellsFronts (course : Course) (line : List ℕ) (before after : Option (List ℕ)) : Type 0 where
   pub mid : Option (List ℕ)
   pub lines : AppendsFront (report_of course) before mid
   pub ended : AppendsFront line mid after
 
--- However a run ends, it told a front of the course's report, and then a front of the line of its status, or of any status
--- where memory is wanting: it may be wanting for the line itself.
+-- However a run ends, it wrote a prefix of the course's report, and then a prefix of the line of its status, or of any
+-- status where memory runs out: it may run out for the line itself.
 abbrev pub ExecutionTellsFronts : Type 0
 ExecutionTellsFronts = (course : Course) (end : Status) (before after : World) → IsExecution course end before after →
     (told : Status) × ((told ≡ end) ⊎ (end ≡ status.Memory)) × TellsFronts course (fault_line told) before.report after.report

@@ -1,4 +1,4 @@
-// How the work of a run ends, and what is told of it.
+// How the work of a run ends, and how that is reported.
 ghost use Rattle.std.specs.Prelude.{◌≡◌, ◌≤◌, [], Option};
 ghost use Rattle.bridge_courses.specs.Executions.{TellsAs};
 
@@ -8,17 +8,17 @@ use bridge_io::{Fail, Sink, Text};
 /// How the work of a run ends.
 #[derive(Drop)]
 pub enum Ending {
-    /// As a verdict says, with the last lines of the report.
+    /// With a verdict, and the last lines of the report.
     Ended(Verdict, Text),
-    /// The words are no job.
+    /// Usage error.
     Words,
     /// A read failed.
     ReadFault,
     /// The store failed while files were written.
     WriteFault,
-    /// Memory is wanting.
+    /// Out of memory.
     Memory,
-    /// The sink failed at a line, after which no more is told.
+    /// The sink failed at a line. Nothing more is reported.
     Cut(Fail),
 }
 
@@ -50,7 +50,7 @@ impl Ending {
         }
     }
 
-    /// The status where the sink fails at the line.
+    /// The status where the sink fails at the ending's line.
     fn status_untold(&self) -> Status
         ensures { result ≡ status_untold self.now }
     {
@@ -61,9 +61,9 @@ impl Ending {
     }
 }
 
-/// Tells the report how the work of a run ended, and answers the run's status. Where the sink fails at the line of a
-/// job that is done, that is `WriteFault`; where it finds no memory, `Memory`; otherwise the ending's own. After a sink
-/// that failed before, nothing is told.
+/// Writes the end of a run's work to the report, and returns the run's status. Where the sink fails at the line of a
+/// successful command, that is `WriteFault`; where memory runs out for it, `Memory`; otherwise the ending's own. After
+/// a sink that failed before, nothing is reported.
 pub fn tell<P: Sink>(ending: &Ending, report: &mut P) -> Status
     ensures told { TellsAs ending.now result (P.faults report.old) (P.faults report.new) (P.written report.old) (P.written report.new) }
     ensures never_falls { P.faults report.old ≤ P.faults report.new }

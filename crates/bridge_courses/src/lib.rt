@@ -1,5 +1,5 @@
 //! How a run of the program ends, and what it leaves: the statuses, the last line of the report, and the definition of
-//! a run as a course of steps, of which the contract of the top call speaks.
+//! a run as a course of steps, for the contract of the top call.
 #![tactic(auto)]
 
 mod ending;

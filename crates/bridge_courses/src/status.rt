@@ -3,20 +3,20 @@ ghost use Rattle.std.specs.Prelude.{◌≡◌};
 ghost use Rattle.bridge_courses.specs.Statuses.{number_of};
 ghost use Rattle.bridge_courses.specs.Executions.{status_by};
 
-/// How a run ends. The program exits with the status's number.
+/// The status of a run. The program exits with its number.
 #[derive(Clone, Copy, PartialEq, Eq)]
 pub enum Status {
-    /// The job was done: its files and the whole report are written.
+    /// The command succeeded: its files and the whole report are written.
     Done,
-    /// The input is refused, for the reason that the report tells.
+    /// The input is rejected; the report says why.
     Refused,
-    /// The words are no job.
+    /// Usage error.
     Words,
-    /// The outside failed while the run read.
+    /// An I/O error while the run read.
     ReadFault,
-    /// The outside failed while the run wrote.
+    /// An I/O error while the run wrote.
     WriteFault,
-    /// Memory is wanting.
+    /// Out of memory.
     Memory,
     /// Two sides differ.
     Differ,
@@ -31,21 +31,21 @@ impl Status {
     }
 }
 
-/// How a run ends that no fault and no want of memory ends.
+/// How a run ends, apart from I/O errors and running out of memory.
 #[derive(Clone, Copy, PartialEq, Eq)]
 pub enum Verdict {
-    /// The job was done.
+    /// The command succeeded.
     Done,
-    /// The input is refused.
+    /// The input is rejected.
     Refused,
-    /// The words are no job.
+    /// Usage error.
     Words,
     /// Two sides differ.
     Differ,
 }
 
 impl Verdict {
-    /// The status that tells it.
+    /// Its status.
     pub fn status(self) -> Status
         ensures { result ≡ status_by self }
     {

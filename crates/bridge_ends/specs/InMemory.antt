@@ -4,7 +4,7 @@ use Rattle.bridge_io.specs.Outside.{Files}
 use Rattle.bridge_ends.specs.{declared.schedule.Schedule.Schedule, declared.mem_source.MemSource.MemSource}
 use Rattle.bridge_ends.specs.{declared.mem_sink.MemSink.MemSink, declared.mem_store.MemStore.MemStore}
 
--- the bytes that a source has left
+-- the unread bytes of a source
 abbrev pub left_in : MemSource → List ℕ
 left_in source = drop source.at source.bytes
 

@@ -6,7 +6,7 @@ use Rattle.bridge_ends.specs.declared.schedule.Schedule.{Schedule}
 abbrev pub fails_next : Schedule → Bool
 fails_next schedule = list_any (λ call. call == schedule.calls) schedule.failing
 
--- A call was counted, and its fault where it failed. Counters stop at their last value.
+-- A call was counted, and its failure where it failed. Counters stop at their last value.
 pub record Counts (before after : Schedule) : Type 0 where
   pub failing : after.failing ≡ before.failing
   pub calls : after.calls ≡ min (before.calls + 1) (2 ^ 128 - 1)

@@ -1,4 +1,4 @@
-// Faults of the operating system.
+// Errors of the operating system.
 ghost use Rattle.std.specs.Prelude.{◌≡◌, ◌≤◌};
 ghost use Rattle.bridge_io.specs.declared.outside.Fail.TheVariants.{Failed};
 ghost use Rattle.bridge_io.specs.Fault.{Rose};
@@ -7,7 +7,7 @@ use bridge_io::Fail;
 use std::io;
 use std::io::ErrorKind;
 
-/// What an error comes to. Each one but want of memory is counted.
+/// Maps an I/O error. Each one is counted, except out of memory.
 pub fn counted(faults: &mut u64, error: io::Error) -> Fail
     ensures never_falls { faults.old ≤ faults.new }
     ensures rose { result ≡ Failed → Rose faults.old faults.new }

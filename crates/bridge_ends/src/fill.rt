@@ -1,7 +1,7 @@
-// Reads of what is in memory.
+// Reads from memory.
 ghost use Rattle.std.specs.Prelude.{◌≡◌, length, take, min};
 
-/// Copies the front of some bytes to the front of a buffer, as much as fits, and answers how many.
+/// Copies as many bytes as fit into the start of a buffer, and returns how many.
 pub fn fill(buf: &mut [u8], from: &[u8]) -> usize
     ensures count { result ≡ min (length from.now) (length buf.old) }
     ensures front { take result buf.new ≡ take result from.now }

@@ -1,4 +1,4 @@
-// A folder of the file system as a store.
+// A directory of the file system as a store.
 ghost use Rattle.std.specs.Prelude.{◌≡◌, ◌≤◌, length, None, IfOk};
 
 use crate::fault::counted;
@@ -9,12 +9,12 @@ use std::io::{ErrorKind, Read, Seek, SeekFrom, Write};
 use std::rt::Files;
 use std::{fs, io};
 
-/// The files under a folder as a store. It tells nothing of their bytes.
+/// The files under a directory as a store. It doesn't model their bytes.
 ///
-/// A file's path is the folder's, `/` and the name, which has no `..` and is no absolute path. A symbolic link is
+/// A file's path is the directory's, `/` and the name, which has no `..` and isn't an absolute path. Symbolic links are
 /// followed. The file that was read last stays open until another one is read, or it is read from its first byte again: so
-/// what is read of a file is of the one that was opened, also where another one takes its place meanwhile. The file that was
-/// appended to last stays open until another one is, or it is created anew.
+/// all bytes come from the file that was opened, even if another one replaces it meanwhile. The file that was appended to
+/// last stays open until another one is, or it is created anew.
 #[derive(Drop)]
 pub struct FolderStore<R: Files> {
     files: R,
@@ -24,13 +24,13 @@ pub struct FolderStore<R: Files> {
     source: Option<OpenFile<R::File>>,
     /// What was appended to last.
     end: Option<OpenFile<R::File>>,
-    /// The folder of the file that was created last, which is there.
+    /// The directory of the file that was created last, which exists.
     made: String,
     read_faults: u64,
     write_faults: u64,
 }
 
-/// A file that is open.
+/// An open file.
 #[derive(Drop)]
 struct OpenFile<F> {
     path: String,
@@ -38,7 +38,7 @@ struct OpenFile<F> {
 }
 
 impl<R: Files + Drop> FolderStore<R> {
-    /// A store over a folder, as `.` for the current one, with no fault counted.
+    /// A store over a directory (`.` is the current one), with no error counted.
     pub fn new(files: R, alloc: Global, folder: &str) -> Result<FolderStore<R>, NoMemory>
         ensures read_faults { IfOk result (λ store. ⟦<FolderStore<R> as Store>⟧.read_faults store ≡ 0) }
         ensures write_faults { IfOk result (λ store. ⟦<FolderStore<R> as Store>⟧.write_faults store ≡ 0) }
@@ -63,7 +63,7 @@ impl<R: Files> Store for FolderStore<R> {
 
     ghost write_faults = { λ s. s.write_faults };
 
-    /// A folder is no file, and neither is a pipe, a device or what stands below a file.
+    /// A directory, pipe or device isn't a file, and neither is a path below a file.
     fn has(&mut self, name: &Name) -> Result<bool, Fail> {
         let path = path_of(self.alloc, &self.folder, name)?;
         match is_file(&self.files, path.as_str()) {
@@ -72,7 +72,7 @@ impl<R: Files> Store for FolderStore<R> {
         }
     }
 
-    /// Makes one read. Where there is no file, but a folder or nothing, no bytes come.
+    /// Makes one read. Returns no bytes where the path is a directory or doesn't exist.
     fn read_at(&mut self, name: &Name, at: u64, buf: &mut [u8]) -> Result<usize, Fail> {
         let path = path_of(self.alloc, &self.folder, name)?;
         match read_from(&self.files, &mut self.source, path, at, buf) {
@@ -82,8 +82,8 @@ impl<R: Files> Store for FolderStore<R> {
         }
     }
 
-    /// Makes the folders that are missing, too, but for one that was there for the file before. What stands there and is no
-    /// file, as a pipe or a device, is a fault.
+    /// Creates missing directories, too, except one that existed for the file before. Fails where the path is neither a
+    /// file nor missing, as a pipe or a device.
     fn create(&mut self, name: &Name) -> Result<(), Fail> {
         let path = path_of(self.alloc, &self.folder, name)?;
         self.end = None;
@@ -93,7 +93,7 @@ impl<R: Files> Store for FolderStore<R> {
         }
     }
 
-    /// Writes until the whole piece was taken. Makes the folders that are missing, as `create` does.
+    /// Writes until the whole piece is taken. Creates missing directories, as `create` does.
     fn append(&mut self, name: &Name, piece: &[u8]) -> Result<(), Fail> {
         let path = path_of(self.alloc, &self.folder, name)?;
         match append_to(&self.files, &mut self.end, &mut self.made, path, piece) {
@@ -110,7 +110,7 @@ fn path_of(alloc: Global, folder: &String, name: &Name) -> Result<String, AllocE
     Ok(path)
 }
 
-/// Whether the error says that there is no file of this path.
+/// Whether the error says that the path has no file.
 fn is_absence(error: &io::Error) -> bool {
     matches!(error.kind(), ErrorKind::NotFound | ErrorKind::NotADirectory)
 }
@@ -123,7 +123,7 @@ fn is_file<R: Files>(files: &R, path: &str) -> io::Result<bool> {
     }
 }
 
-/// Reads from a place on, of the file that is open where it is this one and the place isn't its front.
+/// Reads from a byte offset. Uses the open file where it is this one and the offset isn't 0.
 fn read_from<R: Files>(
     files: &R,
     open: &mut Option<OpenFile<R::File>>,
@@ -153,7 +153,7 @@ fn create_empty<R: Files>(files: &R, made: &mut String, path: &str) -> io::Resul
     Ok(())
 }
 
-/// Whether nothing, a file or a folder stands there: to open something else might wait for ever.
+/// Whether the path is missing, a file or a directory: opening something else might block for ever.
 fn check_kind<R: Files>(files: &R, path: &str) -> io::Result<()> {
     match files.metadata(path) {
         Ok(metadata) if !metadata.is_file() && !metadata.is_dir() => {
@@ -163,7 +163,7 @@ fn check_kind<R: Files>(files: &R, path: &str) -> io::Result<()> {
     }
 }
 
-/// Adds a piece at the end of a file, which is open where it was appended to last. A fault closes it.
+/// Appends a piece to a file, which is open where it was appended to last. An error closes it.
 fn append_to<R: Files>(
     files: &R,
     open: &mut Option<OpenFile<R::File>>,
@@ -192,7 +192,8 @@ fn end_of<R: Files>(files: &R, made: &mut String, path: &str) -> io::Result<R::F
         .open(files, path)
 }
 
-/// Makes the folder of a file, unless it was there for the file before: one that was removed meanwhile stays away.
+/// Creates a file's directory, unless it existed for the file before: one that was removed meanwhile isn't created
+/// again.
 fn make_folders<R: Files>(files: &R, made: &mut String, path: &str) -> io::Result<()> {
     let Some((folder, _)) = path.rsplit_once('/') else {
         return Ok(());

@@ -1,4 +1,4 @@
-//! What stands behind the traits of the outside: the operating system's files and streams, and their like in memory,
+//! Implementations of the I/O traits: the operating system's files and streams, and their counterparts in memory,
 //! whose calls fail where a list says so.
 #![tactic(auto)]
 
@@ -20,5 +20,5 @@ pub use mem_store::MemStore;
 pub use std_sink::StdSink;
 pub use std_source::StdSource;
 
-/// Numbers of calls, counted from 0.
+/// Call numbers, counted from 0.
 pub type CallList = Sequence<u64>;

@@ -11,7 +11,7 @@ use crate::schedule::Schedule;
 use bridge_io::{Fail, Sink};
 use std::alloc::Global;
 
-/// Memory as a sink, of which the listed calls of `write` fail, counted from 0.
+/// Memory as a sink. The listed calls of `write` fail, counted from 0.
 #[derive(Drop)]
 pub struct MemSink {
     written: Vec<u8>,
@@ -19,7 +19,7 @@ pub struct MemSink {
 }
 
 impl MemSink {
-    /// A sink to which nothing was written. It takes no memory.
+    /// An empty sink. It allocates nothing.
     pub fn new(alloc: Global, failing: CallList) -> MemSink
         ensures empty { written_to result ≡ [] }
         ensures failing { (writes_to result).failing ≡ failing }

@@ -9,7 +9,7 @@ use crate::fill::fill;
 use crate::schedule::Schedule;
 use bridge_io::{Bytes, Fail, Source};
 
-/// Bytes in memory as a source, of which the listed calls of `read` fail, counted from 0, and no others.
+/// Bytes in memory as a source. The listed calls of `read` fail, counted from 0, and no others.
 #[derive(Drop)]
 pub struct MemSource {
     bytes: Bytes,
@@ -22,7 +22,7 @@ impl MemSource {
     ghost use Rattle.bridge_ends.specs.Schedule.{IsFresh};
     ghost use Rattle.bridge_ends.specs.InMemory.{left_in, reads_from};
 
-    /// A source of these bytes. It takes no memory.
+    /// A source of these bytes. It allocates nothing.
     pub fn new(bytes: Bytes, failing: CallList) -> MemSource
         ensures bytes { left_in result ≡ bytes }
         ensures failing { (reads_from result).failing ≡ failing }

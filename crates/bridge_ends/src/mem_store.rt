@@ -15,8 +15,8 @@ use bridge_io::{Bytes, Fail, Name, NoMemory, Store};
 use std::alloc::Global;
 use std::collections::BTreeMap;
 
-/// Files in memory as a store. Of its calls of `has` and `read_at` the listed ones fail, and of its calls of `create`
-/// and `append` those of a second list, each counted from 0.
+/// Files in memory as a store. The calls of `has` and `read_at` in one list fail, and the calls of `create` and
+/// `append` in a second list, each counted from 0.
 #[derive(Drop)]
 pub struct MemStore {
     alloc: Global,
@@ -26,7 +26,7 @@ pub struct MemStore {
 }
 
 impl MemStore {
-    /// A store without files. It takes no memory.
+    /// A store without files. It allocates nothing.
     pub fn new(alloc: Global, failing_reads: CallList, failing_writes: CallList) -> MemStore
         ensures empty { (name : _) → files_in result name ≡ None }
         ensures failing_reads { (reads_in result).failing ≡ failing_reads }
@@ -51,7 +51,7 @@ impl MemStore {
         set(self.alloc, &mut self.files, name.as_str(), bytes)
     }
 
-    /// The bytes of a file. There are none exactly where there is no file of this name.
+    /// The bytes of a file; `None` exactly where there is no file of this name.
     pub fn file(&self, name: &Name) -> Option<&[u8]>
         ensures { option_copied result ≡ files_in self.now name.now }
     {
@@ -133,7 +133,7 @@ impl Store for MemStore {
     }
 }
 
-/// Copies the bytes from a place on to the front of a buffer, as much as fits, and answers how many.
+/// Copies as many bytes as fit, from a byte offset, into the start of a buffer, and returns how many.
 fn fill_from(buf: &mut [u8], bytes: &[u8], at: u64) -> usize
     requires { 0 < length buf.old }
     ensures bound { result ≤ length buf.new }
@@ -157,7 +157,7 @@ fn set(alloc: Global, files: &mut Files, name: &str, bytes: Bytes) -> Result<(),
     Ok(())
 }
 
-/// Adds a piece to a file's end, which is made where it is absent. An error leaves the files as they were.
+/// Appends a piece to a file, creating it where it is absent. An error leaves the files as they were.
 fn extend(alloc: Global, files: &mut Files, name: &str, piece: &[u8]) -> Result<(), NoMemory>
     ensures ok { OnOk result (get_by_text files.new ≡ extended name.now piece.now (get_by_text files.old)) }
     ensures err { OnErr result (get_by_text files.new ≡ get_by_text files.old) }

@@ -7,8 +7,8 @@ ghost use Rattle.bridge_ends.specs.Schedule.{fails_next, Counts, IsFresh};
 
 use crate::CallList;
 
-/// Counts calls from 0 on, of which those listed fail, and how many have failed. The count of calls stands still at
-/// 2^128 - 1, which no list can name.
+/// Counts calls from 0, of which those listed fail, and the failures. The count of calls stops at 2^128 - 1, which no
+/// list can name.
 #[derive(Drop)]
 pub struct Schedule {
     failing: CallList,
@@ -28,7 +28,7 @@ impl Schedule {
         }
     }
 
-    /// Counts a call, and says whether it fails.
+    /// Counts a call, and returns whether it fails.
     pub fn fails(&mut self) -> bool
         ensures listed { result ≡ fails_next self.old }
         ensures counts { Counts self.old self.new }

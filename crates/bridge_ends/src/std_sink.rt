@@ -6,7 +6,7 @@ use bridge_io::{Fail, Sink};
 use std::io;
 use std::io::Write;
 
-/// A writer as a sink, as standard output is one. It tells nothing of its bytes.
+/// A writer as a sink, as standard output. It doesn't model its bytes.
 #[derive(Drop)]
 pub struct StdSink<W: Write> {
     writer: W,
@@ -14,7 +14,7 @@ pub struct StdSink<W: Write> {
 }
 
 impl<W: Write> StdSink<W> {
-    /// A sink over a writer, with no fault counted.
+    /// A sink over a writer, with no error counted.
     pub fn new(writer: W) -> StdSink<W>
         ensures { ⟦<StdSink<W> as Sink>⟧.faults result ≡ 0 }
     {
@@ -27,7 +27,7 @@ impl<W: Write> Sink for StdSink<W> {
 
     ghost faults = { λ s. s.faults };
 
-    /// Writes until the whole piece was taken, and flushes.
+    /// Writes until the whole piece is taken, and flushes.
     fn write(&mut self, piece: &[u8]) -> Result<(), Fail> {
         match write_through(&mut self.writer, piece) {
             Ok(()) => Ok(()),

@@ -5,7 +5,7 @@ use crate::fault::counted;
 use bridge_io::{Fail, Source};
 use std::io::Read;
 
-/// A reader as a source, as standard input is one. It tells nothing of its bytes.
+/// A reader as a source, as standard input. It doesn't model its bytes.
 #[derive(Drop)]
 pub struct StdSource<R: Read> {
     reader: R,
@@ -13,7 +13,7 @@ pub struct StdSource<R: Read> {
 }
 
 impl<R: Read> StdSource<R> {
-    /// A source over a reader, with no fault counted.
+    /// A source over a reader, with no error counted.
     pub fn new(reader: R) -> StdSource<R>
         ensures { ⟦<StdSource<R> as Source>⟧.faults result ≡ 0 }
     {

@@ -1,10 +1,10 @@
--- What a call adds to a file that is written piece by piece.
+-- What a call appends to a buffered file.
 use Rattle.std.specs.Prelude.{◌≡◌, ℕ, List, ◌++◌, Option, Result, OnOk, OnErr}
 use Rattle.bridge_io.specs.{Fault.HasCause, Outside.Files, Written.{target, IsBehind, HasFront}, declared.outside.Store.Ghosts}
 use Rattle.bridge_io.specs.{declared.outside.Fail.Fail, declared.outside.Fail.TheVariants.Failed, declared.sheet.Sheet.Sheet}
 
--- A text comes behind the one that the sheet's writer stands behind. An error leaves a front of the two in the file, and it
--- is a fault of the outside only where the count of failed writes rose.
+-- The text is appended to what the sheet's writer was given. After an error the file holds a prefix of the two, and the
+-- error is an I/O error only where the count of failed writes rose.
 pub record Adds {F T : Type 0} (store : Ghosts F) (text : List ℕ) (old new : Sheet F) (result : Result T Fail) : Type 0 where
   pub same_writer : new.writer.ghost_name ≡ old.writer.ghost_name
   pub same_store : new.store.ghost_name ≡ old.store.ghost_name

@@ -1,7 +1,7 @@
--- Faults of the outside have a cause: a count of the object that was handed in rose.
+-- An I/O error has a cause: a count of the object that was passed in rose.
 use Rattle.std.specs.Prelude.{◌⊎◌, ℕ, ◌-◌, ◌^◌, ◌<◌, ◌≤◌, Result, IsErrOf}
 
--- a count is higher after than before, or stands at the last value of a counter
+-- a count is higher after than before, or a counter is at its last value
 abbrev pub Rose : ℕ → ℕ → Type 0
 Rose before after = (before < after) ⊎ (2 ^ 64 - 1 ≤ after)
 

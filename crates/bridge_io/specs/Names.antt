@@ -8,12 +8,12 @@ abbrev pub is_name_byte : ℕ → Bool
 is_name_byte b = (nat_le 65 b && nat_le b 90) || (nat_le 97 b && nat_le b 122) || (nat_le 48 b && nat_le b 57)
     || b == 45 || b == 46 || b == 95 || b == 126 || b == 43 || b == 61 || b == 44 || b == 64 || b == 47
 
--- the parts between the slashes of a text that goes on from the front of its first part
+-- the parts between the slashes of a text; the first argument is the start of the first part
 abbrev pub parts_after : List ℕ → List ℕ → List (List ℕ)
 parts_after front [] = front ∷ []
 parts_after front (b ∷ bs) = if b == 47 then front ∷ parts_after [] bs else parts_after (front ++ b ∷ []) bs
 
--- a part is more than two dots at most: empty, `.` and `..` name nothing in a folder, or lead out of it
+-- a proper part isn't empty, `.` or `..`: those name nothing in a directory, or lead out of it
 abbrev pub is_proper_part : List ℕ → Bool
 is_proper_part part = not (nat_le (length part) 2 && list_all (λ b. b == 46) part)
 
@@ -22,11 +22,11 @@ abbrev pub is_name : List ℕ → Bool
 is_name text = nat_le 1 (length text) && nat_le (length text) 255 && list_all is_name_byte text
     && list_all is_proper_part (parts_after [] text)
 
--- the name that a text is
+-- a text read as a name
 abbrev pub name_of : List ℕ → Result (List ℕ) NameFault
 name_of text = if is_name text then Ok text else Err Shape
 
--- want of memory tells nothing of the text
+-- out of memory says nothing about the text
 abbrev pub refusal : NameFault → Option NameFault
 refusal Shape = Some Shape
 refusal Memory = None

@@ -1,4 +1,4 @@
--- The pieces of which a line is put together.
+-- The pieces of a line.
 use Rattle.std.specs.{Prelude.{ℕ, List, decimal}, List.flat_map}
 use Rattle.bridge_io.specs.{declared.piece.Piece.Piece, declared.piece.Piece.TheVariants.{Text, Number, Wide}}
 

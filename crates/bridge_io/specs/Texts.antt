@@ -1,4 +1,4 @@
--- Texts of which only matters which are there.
+-- Texts in a list.
 use Rattle.std.specs.{Prelude.{ℕ, Bool, List, bytes_eq}, List.list_any}
 
 abbrev pub is_among : List ℕ → List (List ℕ) → Bool

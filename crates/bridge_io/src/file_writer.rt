@@ -1,4 +1,4 @@
-// A file that is written in large pieces.
+// Buffered file writing.
 ghost use Rattle.std.specs.Prelude.{◌≡◌, ◌<◌, ◌≤◌, ℕ, List, ◌++◌, [], Option, length, IfOk, OnOk, OnErr};
 ghost use Rattle.bridge_io.specs.declared.outside.Fail.TheVariants.{Failed};
 ghost use Rattle.bridge_io.specs.Fault.{HasCause};
@@ -7,11 +7,10 @@ ghost use Rattle.bridge_io.specs.Outside.{Files, put, extended, Changes, MayEmpt
 use crate::{Fail, Name, Store};
 use std::alloc::Global;
 
-/// How many bytes are held back at most, and handed on at once at most.
+/// The buffer's size in bytes, and the most bytes that one write call gets.
 const PIECE: usize = 4096;
 
-/// A file that is written from its start on. What is pushed is held back, and comes to the file's end in pieces of 1 to
-/// 4,096 bytes.
+/// A file that is written from its start. `push` buffers; the bytes reach the file's end in pieces of 1 to 4,096 bytes.
 #[derive(Drop)]
 pub struct FileWriter<'a> {
     name: &'a Name,
@@ -22,7 +21,7 @@ pub struct FileWriter<'a> {
 impl<'a> FileWriter<'a> {
     ghost use Rattle.bridge_io.specs.Written.{target, held, IsBehind, HasFront};
 
-    /// Makes the file empty. An error leaves it as it was, or empty.
+    /// Truncates the file, or creates it. An error leaves it as it was, or empty.
     pub fn create<F: Store>(
         alloc: Global,
         store: &mut F,
@@ -39,7 +38,7 @@ impl<'a> FileWriter<'a> {
         Ok(FileWriter { name, held })
     }
 
-    /// Adds a piece of any length to the text. An error leaves a front of the text in the file.
+    /// Adds a piece of any length to the text. After an error the file holds a prefix of the text.
     pub fn push<F: Store>(&mut self, store: &mut F, piece: &[u8]) -> Result<(), Fail>
         ensures target { target self.new ≡ target self.old }
         ensures ok { OnOk result ((text : List ℕ) (first : Option Files) → IsBehind self.old text first (F.files store.old)
@@ -58,7 +57,7 @@ impl<'a> FileWriter<'a> {
         Ok(())
     }
 
-    /// Adds a piece of at most 4,096 bytes. Where there is no room for it, what is held goes to the file first.
+    /// Adds a piece of at most 4,096 bytes. Flushes the buffer first where the piece doesn't fit.
     fn hold<F: Store>(&mut self, store: &mut F, piece: &[u8]) -> Result<(), Fail>
         requires { length piece.now ≤ PIECE }
         ensures target { target self.new ≡ target self.old }
@@ -76,7 +75,8 @@ impl<'a> FileWriter<'a> {
         Ok(())
     }
 
-    /// Brings all that is held to the file's end, so that the text is the file. An error leaves a front of it there.
+    /// Writes the whole buffer to the file's end, so that the file holds the whole text. After an error it holds a
+    /// prefix of it.
     pub fn flush<F: Store>(&mut self, store: &mut F) -> Result<(), Fail>
         ensures target { target self.new ≡ target self.old }
         ensures held { OnOk result (held self.new ≡ []) }
@@ -96,7 +96,7 @@ impl<'a> FileWriter<'a> {
     }
 }
 
-/// Adds a piece to a file's end: each one that a writer hands on has 1 to 4,096 bytes.
+/// Appends a piece to a file: each one that a writer hands on has 1 to 4,096 bytes.
 fn hand_on<F: Store>(store: &mut F, name: &Name, piece: &[u8]) -> Result<(), Fail>
     requires some { 0 < length piece.now }
     requires bounded { length piece.now ≤ PIECE }

@@ -1,5 +1,4 @@
-//! What every part of the manifest bridge shares: texts, names, lists and places, and the three traits by which
-//! it meets the outside.
+//! What every part of the manifest bridge shares: texts, names, lists, positions in files, and the three I/O traits.
 #![tactic(auto)]
 
 mod file_writer;
@@ -33,5 +32,5 @@ pub use steps::Steps;
 pub use text::Text;
 pub use whole_file::slurp;
 
-/// Bytes as they stand in a file.
+/// The bytes of a file.
 pub type Bytes = Sequence<u8>;

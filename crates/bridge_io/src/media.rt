@@ -1,18 +1,18 @@
-// What a track shows of itself: its kind, the size of its picture and its frame rate.
+// Properties of a track: its kind, its width and height, and its frame rate.
 ghost use Rattle.std.specs.Prelude.{◌<◌};
 
-/// What a track holds (ISO/IEC 23009-1, 5.3.7.2; RFC 8216, 4.3.4.1).
+/// The media type of a track (ISO/IEC 23009-1, 5.3.7.2; RFC 8216, 4.3.4.1).
 #[derive(Clone, Copy, Debug, PartialEq, Eq)]
 pub enum Kind {
-    /// Pictures that follow one another.
+    /// Video.
     Video,
-    /// Sound.
+    /// Audio.
     Audio,
     /// Subtitles or captions.
     Text,
 }
 
-/// The size of a picture (ISO/IEC 23009-1, 5.3.7.2; RFC 8216, 4.3.4.2).
+/// The width and height of a picture (ISO/IEC 23009-1, 5.3.7.2; RFC 8216, 4.3.4.2).
 #[derive(Clone, Copy, PartialEq, Eq)]
 pub struct Size {
     /// In pixels.
@@ -21,7 +21,7 @@ pub struct Size {
     pub height: u32,
 }
 
-/// The fraction n/m, as a frame rate is told: frames a second (ISO/IEC 23009-1, 5.3.7.2).
+/// A frame rate: n/m frames per second (ISO/IEC 23009-1, 5.3.7.2).
 #[derive(Clone, Copy, PartialEq, Eq)]
 pub struct Ratio {
     /// How many frames there are in m seconds.

@@ -9,16 +9,16 @@ use std::alloc::Global;
 use std::marker::Model;
 use thiserror::Error;
 
-/// How many bytes a name has at most.
+/// The most bytes that a name has.
 const MAX_LEN: usize = 255;
 
-/// Why a text gives no name.
+/// Why a text isn't a name.
 #[derive(Clone, Copy, Debug, PartialEq, Eq, Error)]
 pub enum NameFault {
     /// The text isn't a name.
     #[error("no name of a file in a store")]
     Shape,
-    /// Memory is wanting.
+    /// Out of memory.
     #[error("out of memory")]
     Memory,
 }
@@ -43,7 +43,7 @@ impl Model for Name {
 impl Name {
     ghost use Rattle.bridge_io.specs.Names.{name_of, refusal};
 
-    /// Reads a text as a name. Shape comes exactly where the text isn't one.
+    /// Reads a text as a name. `Shape` comes exactly where the text isn't one.
     pub fn read(alloc: Global, text: &str) -> Result<Name, NameFault>
         ensures { Gives (λ name. name) refusal result (name_of text.now) }
     {
@@ -79,7 +79,8 @@ fn has_name_bytes(text: &[u8]) -> bool
 fn is_name_byte(byte: u8) -> bool
     ensures { result ≡ is_name_byte byte }
 {
-    // The frequent ones stand first. From `+` to `9` stand `+,-./` and the digits, and from `@` to `Z` the capitals.
+    // The frequent bytes are tested first. `+` to `9` are `+,-./` and the digits; `@` to `Z` are `@` and the
+    // capitals.
     byte.is_ascii_lowercase()
         || (b'+'..=b'9').contains(&byte)
         || matches!(byte, b'@'..=b'Z' | b'=' | b'_' | b'~')
@@ -102,7 +103,7 @@ fn has_proper_parts(text: &[u8]) -> bool
     part.is_proper()
 }
 
-/// What is known of a part up to some byte.
+/// The state of a scan of one part.
 #[derive(Clone, Copy)]
 struct Part {
     len: usize,

@@ -1,8 +1,8 @@
-// The one answer that any call may give which takes memory.
+// The error of calls that only memory can fail.
 use std::alloc::{AllocError, AllocFailed};
 use thiserror::Error;
 
-/// Memory is wanting. Nothing else is said by it.
+/// Out of memory.
 #[derive(Clone, Copy, Debug, PartialEq, Eq, Error)]
 #[error("out of memory")]
 pub struct NoMemory;

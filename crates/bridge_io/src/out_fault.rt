@@ -1,14 +1,14 @@
-// Why a playlist isn't written.
+// Why a file wasn't written.
 use crate::outside::Fail;
 use thiserror::Error;
 
-/// Why a file isn't written.
+/// Why a file wasn't written.
 #[derive(Clone, Copy, Debug, PartialEq, Eq, Error)]
 pub enum OutFault {
     /// A write failed, and the store's count of failed writes rose.
     #[error("a write failed")]
     WriteFault,
-    /// Memory is wanting.
+    /// Out of memory.
     #[error("out of memory")]
     Memory,
 }

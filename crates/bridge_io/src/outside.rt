@@ -1,4 +1,4 @@
-// The three traits by which the bridge meets the outside: what it reads, what it reports, and the files of a folder.
+// The three I/O traits: input, report output, and the files of a directory.
 ghost use Rattle.std.specs.Prelude.{◌≡◌, ℕ, ◌<◌, ◌≤◌, List, [], Option, length, is_some, IfOk, OnOk, OnErr};
 ghost use Rattle.std.specs.Option.{ForSome};
 ghost use Rattle.bridge_io.specs.declared.outside.Fail.TheVariants.{Failed, Memory};
@@ -10,13 +10,13 @@ use crate::{Name, NoMemory};
 use std::alloc::AllocError;
 use thiserror::Error;
 
-/// Why a call on the outside failed.
+/// Why an I/O call failed.
 #[derive(Clone, Copy, Debug, PartialEq, Eq, Error)]
 pub enum Fail {
-    /// The outside failed, and the object's count of faults rose.
+    /// An I/O error, which the object's fault count includes.
     #[error("a call on the outside failed")]
     Failed,
-    /// Memory is wanting.
+    /// Out of memory.
     #[error("out of memory")]
     Memory,
 }
@@ -37,16 +37,16 @@ impl From<AllocError> for Fail {
     }
 }
 
-/// Bytes that come in, as from standard input.
+/// Input bytes, as standard input.
 pub trait Source {
-    /// The bytes that are left, where the source tells them.
+    /// The unread bytes, where the source models them.
     ghost remaining: { Self → Option (List ℕ) };
 
     /// How often the source has failed.
     ghost faults: { Self → ℕ };
 
-    /// Reads bytes to the front of a buffer, and answers how many. None come at the end of the input alone. An
-    /// error takes no byte.
+    /// Reads bytes into the start of a buffer, and returns how many. Returns 0 only at the end of the input. A failed
+    /// read consumes no input.
     fn read(&mut self, buf: &mut [u8]) -> Result<usize, Fail>
         requires { 0 < length buf.old }
         ensures bound { IfOk result (λ n. n ≤ length buf.new) }
@@ -54,27 +54,27 @@ pub trait Source {
         ensures cause { HasCause Failed (faults self.old) (faults self.new) result };
 }
 
-/// Bytes that go out, as to standard output.
+/// Output bytes, as standard output.
 pub trait Sink {
-    /// The bytes written so far, where the sink tells them.
+    /// The bytes written so far, where the sink models them.
     ghost written: { Self → Option (List ℕ) };
 
     /// How often the sink has failed.
     ghost faults: { Self → ℕ };
 
-    /// Writes a piece whole. An error leaves a front of the piece behind what was written.
+    /// Writes a whole piece. After an error only a prefix of the piece was written.
     fn write(&mut self, piece: &[u8]) -> Result<(), Fail>
         ensures ok { OnOk result (Appends piece.now (written self.old) (written self.new)) }
         ensures err { OnErr result (AppendsFront piece.now (written self.old) (written self.new)) }
         ensures cause { HasCause Failed (faults self.old) (faults self.new) result };
 }
 
-/// The files of a folder. A name without a file reads as an empty one.
+/// The files of a directory. A missing file reads as an empty one.
 pub trait Store {
-    /// The files, where the store tells them.
+    /// The files, where the store models them.
     ghost files: { Self → Option Files };
 
-    /// How often a read has failed. A name without a file is no fault.
+    /// How often a read has failed. A missing file is no failure.
     ghost read_faults: { Self → ℕ };
 
     /// How often a write has failed.
@@ -87,8 +87,8 @@ pub trait Store {
         ensures cause { HasCause Failed (read_faults self.old) (read_faults self.new) result }
         ensures writes { write_faults self.new ≡ write_faults self.old };
 
-    /// Reads bytes of a file from a place on to the front of a buffer, and answers how many. None come exactly where
-    /// the place is at the file's end or past it.
+    /// Reads bytes of a file, from a byte offset, into the start of a buffer, and returns how many. Returns 0 exactly
+    /// where the offset is at the file's end or past it.
     fn read_at(&mut self, name: &Name, at: u64, buf: &mut [u8]) -> Result<usize, Fail>
         requires { 0 < length buf.old }
         ensures bound { IfOk result (λ n. n ≤ length buf.new) }
@@ -97,14 +97,15 @@ pub trait Store {
         ensures cause { HasCause Failed (read_faults self.old) (read_faults self.new) result }
         ensures writes { write_faults self.new ≡ write_faults self.old };
 
-    /// Makes a file empty. An error leaves it as it was, or empty.
+    /// Truncates a file, or creates it. An error leaves it as it was, or empty.
     fn create(&mut self, name: &Name) -> Result<(), Fail>
         ensures ok { OnOk result (Changes (put name.now []) (files self.old) (files self.new)) }
         ensures err { OnErr result (MayEmpty name.now (files self.old) (files self.new)) }
         ensures cause { HasCause Failed (write_faults self.old) (write_faults self.new) result }
         ensures reads { read_faults self.new ≡ read_faults self.old };
 
-    /// Adds a piece to a file's end. An error leaves a front of the piece there, or an absent file absent.
+    /// Appends a piece to a file. After an error a prefix of the piece was appended, or an absent file is still
+    /// absent.
     fn append(&mut self, name: &Name, piece: &[u8]) -> Result<(), Fail>
         ensures ok { OnOk result (Changes (extended name.now piece.now) (files self.old) (files self.new)) }
         ensures err { OnErr result (MayExtend name.now piece.now (files self.old) (files self.new)) }

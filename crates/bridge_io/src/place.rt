@@ -1,10 +1,10 @@
-// Where something stands in a file.
+// Positions in a file.
 
 /// A byte of a file, or its end.
 #[derive(Clone, Copy, Debug, PartialEq, Eq)]
 pub struct Place {
-    /// How many bytes stand before it.
+    /// Its byte offset.
     pub at: u64,
-    /// Its line: one more than the number of LF bytes before it.
+    /// Its line number: one more than the number of LF bytes before it.
     pub line: u64,
 }

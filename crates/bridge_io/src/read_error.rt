@@ -1,14 +1,14 @@
-// Why a file isn't read whole.
+// Why a file wasn't read whole.
 ghost use Rattle.std.specs.Prelude.{◌≡◌};
 ghost use Rattle.bridge_io.specs.declared.read_error.Slurp.TheVariants.{Memory};
 
 use crate::{Fail, NoMemory, Place};
 use thiserror::Error;
 
-/// Why a file isn't there whole.
+/// Why a file wasn't read whole.
 #[derive(Clone, Copy, Debug, PartialEq, Eq, Error)]
 pub enum Slurp {
-    /// The file has more bytes than the limit: the place of the first byte past it.
+    /// The file is longer than the limit; the position is that of the first byte past it.
     #[error("more bytes than the limit")]
     TooLong(Place),
     /// The store has no file of this name.
@@ -17,7 +17,7 @@ pub enum Slurp {
     /// A read failed.
     #[error("a read failed")]
     Fault,
-    /// Memory is wanting.
+    /// Out of memory.
     #[error("out of memory")]
     Memory,
 }

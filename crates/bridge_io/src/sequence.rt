@@ -7,7 +7,7 @@ use std::alloc::Global;
 use std::marker::Model;
 use std::slice;
 
-/// Members in order.
+/// A list of members, in order.
 #[derive(Drop)]
 pub struct Sequence<T> {
     members: Vec<T>,
@@ -20,7 +20,7 @@ impl<T> Model for Sequence<T> {
 }
 
 impl<T> Sequence<T> {
-    /// A list with no member. It takes no memory.
+    /// An empty list. It allocates nothing.
     pub fn new(alloc: Global) -> Self
         ensures { result ≡ [] }
     {
@@ -54,7 +54,7 @@ impl<T> Sequence<T> {
         self.members.is_empty()
     }
 
-    /// The member at a place, counted from 0. There is none exactly where the place isn't below the length.
+    /// The member at an index, counted from 0; `None` exactly where the index isn't below the length.
     pub fn get(&self, place: usize) -> Option<&T>
         ensures { option_copied result ≡ slice_get self.now place }
     {
@@ -68,7 +68,7 @@ impl<T> Sequence<T> {
         self.members.as_slice()
     }
 
-    /// The members, which are taken over and not copied.
+    /// The members, moved and not copied.
     pub fn into_vec(self) -> Vec<T>
         ensures { result.items ≡ self }
     {

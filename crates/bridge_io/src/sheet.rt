@@ -1,16 +1,16 @@
-// What lines are written on.
+// The file that lines are written to.
 ghost use Rattle.bridge_io.specs.Adding.{Adds};
 ghost use Rattle.bridge_io.specs.Pieces.{piece_text, pieces_text};
 
 use crate::{Fail, FileWriter, Piece, Store};
 use itoa::Buffer;
 
-/// A file that is written, with the store that it lies in.
+/// A file that is written, with its store.
 #[derive(Drop)]
 pub struct Sheet<'w, 'n, 's, F: Store> {
-    /// What writes the file.
+    /// Writes the file.
     pub writer: &'w mut FileWriter<'n>,
-    /// Where the file lies.
+    /// Holds the file.
     pub store: &'s mut F,
 }
 

@@ -1,10 +1,10 @@
-// How many segments were made, for contracts alone.
+// How many segments were made, in contracts only.
 ghost use Rattle.std.specs.Prelude.{◌≡◌, ℕ, ◌+◌, ◌<◌};
 
 use std::marker::Model;
 use std::sync::ledger::{Blank, Book, Ledger, Share};
 
-/// A count of made segments. It takes no bytes and does nothing at run time: contracts see it as a number.
+/// A count of segments made. It has no size and no effect at run time; contracts see it as a number.
 #[derive(Drop)]
 pub struct Steps<L: Ledger> {
     book: Book<L>,

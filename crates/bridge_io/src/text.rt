@@ -1,4 +1,4 @@
-// A text that is owned.
+// Owned text.
 ghost use Rattle.std.specs.Prelude.{◌≡◌, ℕ, List, IfOk};
 ghost use Rattle.std.specs.String.{string_bytes};
 
@@ -6,7 +6,7 @@ use crate::NoMemory;
 use std::alloc::Global;
 use std::marker::Model;
 
-/// A text: bytes that are UTF-8.
+/// Owned UTF-8 text.
 #[derive(Debug, Drop)]
 pub struct Text {
     text: String,

@@ -1,4 +1,4 @@
-// A whole file into memory.
+// Reading a whole file into memory.
 ghost use Rattle.std.specs.Prelude.{◌≡◌, ◌<◌, ◌≤◌, ◌+◌, ◌==◌, length, take, drop, count_by, is_some, IfOk, IfErr, None};
 ghost use Rattle.std.specs.Option.{ForSome};
 ghost use Rattle.bridge_io.specs.declared.read_error.Slurp.TheVariants.{Fault};
@@ -11,13 +11,13 @@ ghost use Rattle.bridge_io.specs.Slurped.{whole_file, unread, IsFront};
 use crate::{Bytes, Name, Place, Slurp, Store};
 use std::alloc::Global;
 
-/// How many bytes one read asks for.
+/// The most bytes that one read asks for.
 const PIECE: usize = 1 << 16;
 
 /// Reads a whole file of at most `limit` bytes. The store's files stay as they are.
 ///
-/// TooLong comes exactly where the file has more bytes, and Absent exactly where the store hasn't the name, unless a
-/// fault or want of memory came before.
+/// `TooLong` comes exactly where the file is longer, and `Absent` exactly where the store hasn't the name, unless an
+/// I/O error or lack of memory came first.
 pub fn slurp<F: Store>(
     alloc: Global,
     store: &mut F,
@@ -42,7 +42,8 @@ pub fn slurp<F: Store>(
     Err(Slurp::TooLong(place_in(bytes.as_slice(), limit)))
 }
 
-/// Reads the next piece of a file to the end of what was read of it, and answers how many bytes came: none at its end.
+/// Reads the next piece of a file into the end of what was read of it, and returns how many bytes came: 0 at the
+/// file's end.
 fn read_more<F: Store>(
     store: &mut F,
     name: &Name,

@@ -1,4 +1,4 @@
--- How the words of a command line are read, in plain words.
+-- How a command line is parsed, in plain words.
 use Rattle.std.specs.Prelude.{◌≡◌, ◌==◌, ◌&&◌, ◌||◌, ℕ, Bool, true, false, not, is_some, codes, bytes_eq, List, [], ◌∷◌, ◌++◌, map, drop}
 use Rattle.std.specs.{Prelude.{find, if◌then◌else◌, Option, Some, None, option_map}, List.{All, after_first, before_first, list_all}}
 use Rattle.std.specs.{List.list_any, Str.IsUtf8}
@@ -10,7 +10,7 @@ use Rattle.bridge_jobs.specs.declared.verb.Verb.TheVariants.{FollowHls}
 
 -- ---- what a command takes
 
--- an option by its name, and whether it can't be left out
+-- an option by its name, and whether it is required
 pub record Choice : Type 0 where
   pub name : Text
   pub is_required : Bool
@@ -21,7 +21,7 @@ required name = record { name = name; is_required = true }
 abbrev pub optional : Text → Choice
 optional name = record { name = name; is_required = false }
 
--- the names of the words that are known by their places, none of which can be left out, and the options
+-- the names of the positional words, all of which are required, and the options
 pub record Syntax : Type 0 where
   pub places : List Text
   pub options : List Choice
@@ -62,7 +62,7 @@ pub data Look : Type 0 where
 abbrev pub is_equals : ℕ → Bool
 is_equals b = b == 61
 
--- what stands before the first `=`, and what stands behind it
+-- what is before the first `=`, and what is after it
 abbrev pub named_by : Text → Look
 named_by text = named (before_first is_equals text) (if list_any is_equals text then Some (after_first is_equals text) else None)
 
@@ -84,15 +84,15 @@ look_of (b ∷ rest) = if b == 45 then look_behind_one rest else plain
 abbrev pub Value : Type 0
 Value = Text × Text
 
--- how far the words are read
+-- the state of parsing
 pub record Reading : Type 0 where
-  -- what they gave so far, in their order
+  -- the values so far, in order
   pub given : List Value
-  -- the places that have no word yet
+  -- the positional names that have no word yet
   pub places : List Text
   -- the option whose value is the next word
   pub waiting : Option Text
-  -- behind `--`
+  -- after `--`
   pub is_rest : Bool
 
 abbrev pub start : List Text → Reading
@@ -101,30 +101,30 @@ start places = record { given = []; places = places; waiting = None; is_rest = f
 abbrev pub give : Text → Text → Reading → Reading
 give name value r = record r { given = r.given ++ (name, value) ∷ []; waiting = None }
 
--- a word takes the next place; where none is left it is no job
+-- a word is the next positional one; where none is left it is a usage error
 abbrev pub at_place : List Text → Text → Reading → Option Reading
 at_place [] word r = None
 at_place (name ∷ places) word r = Some (give name word (record r { places = places }))
 
--- an option has its value behind `=`, or as the next word; one that the command doesn't have is no job
+-- an option has its value after `=`, or as the next word; one that the command doesn't have is a usage error
 abbrev pub by_name : Bool → Text → Option Text → Reading → Option Reading
 by_name false name value r = None
 by_name true name (Some value) r = Some (give name value r)
 by_name true name None r = Some (record r { waiting = Some name })
 
--- a word where no option waits
+-- a word where no option waits for its value
 abbrev pub by_look : List Choice → Look → Text → Reading → Option Reading
 by_look options hyphens word r = Some (record r { is_rest = true })
 by_look options (named name value) word r = by_name (is_option options name) name value r
 by_look options letters word r = None
 by_look options plain word r = at_place r.places word r
 
--- the next word is the value of an option that waits, where it is plain
+-- the next word is the value of the waiting option, where it is plain
 abbrev pub as_value : Look → Text → Text → Reading → Option Reading
 as_value plain name word r = Some (give name word r)
 as_value _ name word r = None
 
--- behind `--` each word takes a place, whatever it looks like
+-- after `--` each word is positional, whatever it looks like
 abbrev pub read_by : List Choice → Bool → Option Text → Text → Reading → Option Reading
 read_by options true waiting word r = at_place r.places word r
 read_by options false (Some name) word r = as_value (look_of word) name word r
@@ -139,12 +139,12 @@ read_from options (word ∷ words) r = read_by options r.is_rest r.waiting word 
 abbrev pub is_given : Text → List Value → Bool
 is_given name given = list_any (λ v. bytes_eq v.0 name) given
 
--- a name has two values
+-- some name has two values
 abbrev pub has_repeat : List Value → Bool
 has_repeat [] = false
 has_repeat (v ∷ given) = is_given v.0 given || has_repeat given
 
--- no option waits, no name has two values, and each that can't be left out has one
+-- no option waits for its value, no name has two values, and each required one has one
 abbrev pub is_whole : Syntax → Reading → Bool
 is_whole s r =
     not (is_some r.waiting) && not (has_repeat r.given)
@@ -153,7 +153,7 @@ is_whole s r =
 abbrev pub given_of : Syntax → Reading → Option (List Value)
 given_of s r = if is_whole s r then Some r.given else None
 
--- what the words behind the command's own give, where it takes them
+-- the values of the words after the command's own, where they are valid
 abbrev pub given_by : Syntax → List Text → Option (List Value)
 given_by s words = read_from s.options words (start s.places) >>= given_of s
 
@@ -173,14 +173,14 @@ row_of v = record {
   reading = AsWritten;
 }
 
--- the job of the first word's command, with the values that the rest gives
+-- the first word's command, with the values of the rest
 abbrev pub read_job : List Text → Option Job
 read_job words = do
   command ← first_verb words
   given ← given_by (syntax_of command) (drop 1 words)
   job_by command (map row_of given)
 
--- Words that are text are the job that is read of them, or none, and its values are those that are read.
+-- Words that are text are parsed as this definition says.
 pub record CommandLinesAreRead : Type 0 where
   pub jobs : (words : List Text) → All IsUtf8 words → job_of words ≡ read_job words
   pub values : (name : Text) (given : List Value) → first_of name (map row_of given) ≡ value_of name given

@@ -1,4 +1,4 @@
--- What a reader answers where the source's call fails.
+-- What a reader returns where the source's call fails.
 use Rattle.bridge_io.specs.declared.outside.Fail.{Fail}
 use Rattle.bridge_io.specs.declared.outside.Fail.TheVariants as fail
 use Rattle.bridge_jobs.specs.declared.frame.FrameFault.{FrameFault}

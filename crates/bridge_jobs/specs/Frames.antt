@@ -1,4 +1,4 @@
--- Streams of frames.
+-- Streams of update frames.
 use Rattle.bridge_jobs.specs.declared.header.Header.TheVariants as header
 use Rattle.bridge_jobs.specs.declared.frame.Frame.TheVariants as frame
 use Rattle.bridge_jobs.specs.declared.frame.FrameFault.TheVariants as fault
@@ -8,30 +8,30 @@ use Rattle.bridge_io.specs.declared.place.Place.{Place}
 use Rattle.bridge_jobs.specs.{Headers.{header_of, body_length}, declared.header.Header.Header, declared.frame.Frame.Frame}
 use Rattle.bridge_jobs.specs.{declared.frame.FramePos.FramePos, declared.frame.FrameFault.FrameFault}
 
--- a fault of the source and want of memory tell nothing of the stream
+-- an I/O error and out of memory say nothing about the stream
 abbrev pub refusal : FrameFault → Option FrameFault
 refusal fault.Fault = None
 refusal fault.Memory = None
 refusal told = Some told
 
--- the place behind some bytes
+-- the position after some bytes
 abbrev pub behind : Place → List ℕ → Place
 behind place bytes = record {
   at = place.at + length bytes;
   line = place.line + count_by (λ b. b == 10) bytes;
 }
 
--- a header has at most so many bytes with its LF
+-- the most bytes that a header line has, with its LF
 abbrev pub most_header : ℕ
 most_header = 64
 
--- a stream has at most so many frames
+-- the most frames that a stream has
 abbrev pub most_frames : ℕ
 most_frames = 10_000_000
 
 -- ---- one frame
 
--- the front of some bytes up to and with the first LF, and so many bytes at most
+-- the prefix of some bytes up to and with the first LF, truncated to a limit
 unfoldable pub line_within : ℕ → List ℕ → List ℕ
 line_within zero bytes = []
 line_within (suc most) [] = []
@@ -42,22 +42,22 @@ abbrev pub without_end : List ℕ → Option (List ℕ)
 without_end line =
     if bytes_eq (drop (length line - 1) line) (10 ∷ []) then Some (take (length line - 1) line) else None
 
--- a complete line that is no header is refused at its first byte
+-- a complete line that isn't a header is rejected at its first byte
 abbrev pub header_or_fault : {H : Type 0} → Place → Option H → Result H FrameFault
 header_or_fault place (Some header) = Ok header
 header_or_fault place None = Err (fault.Header place)
 
--- and so is a line that is too long; one that the stream's end cuts is refused at that end
+-- and so is a line that is too long; one that the stream's end truncates is rejected at that end
 abbrev pub header_by_line : {H : Type 0} → (most : ℕ) → (read : List ℕ → Option H) → Place → List ℕ → Option (List ℕ) → Result H FrameFault
 header_by_line most read place line (Some text) = header_or_fault place (read text)
 header_by_line most read place line None =
     if length line == most then Err (fault.Header place) else Err (fault.Cut (behind place line))
 
--- the header of a line, which has at most so many bytes with its LF
+-- the header of a line, which has at most `most` bytes with its LF
 unfoldable pub header_at : {H : Type 0} → (most : ℕ) → (read : List ℕ → Option H) → Place → List ℕ → Result H FrameFault
 header_at most read place line = header_by_line most read place line (without_end line)
 
--- so many bytes, the place behind them, and the bytes from there on; a stream that ends inside them is refused at its end
+-- `size` bytes, the position after them, and the bytes from there on; a stream that ends inside them is rejected at its end
 unfoldable pub piece_of : Place → (size : ℕ) → List ℕ → Result (List ℕ × Place × List ℕ) FrameFault
 piece_of place size bytes =
     if nat_le size (length bytes) then Ok (take size bytes, behind place (take size bytes), drop size bytes)
@@ -68,7 +68,7 @@ with_body (header.Mpd now length) body = frame.Mpd now body
 with_body (header.Reset now length) body = frame.Reset now body
 with_body (header.Tick now) body = frame.Tick now
 
--- the instant of a frame
+-- the timestamp of a frame
 abbrev pub now_of : Frame → ℤ
 now_of (frame.Mpd now body) = now
 now_of (frame.Reset now body) = now
@@ -78,7 +78,7 @@ abbrev pub framed_body : Header → Result (List ℕ × Place × List ℕ) Frame
 framed_body header (Ok x) = Ok (with_body header x.0, x.1, x.2)
 framed_body header (Err e) = Err e
 
--- the frame of a header, the place behind it, and the bytes from there on, where the body begins at a place
+-- the frame of a header, the position after it, and the bytes from there on, where the body begins at a position
 unfoldable pub body_of : Place → Header → List ℕ → Result (Frame × Place × List ℕ) FrameFault
 body_of place header bytes = framed_body header (piece_of place (body_length header) bytes)
 
@@ -100,12 +100,12 @@ abbrev pub framed_if : FramePos → List ℕ → List ℕ → Result Header Fram
 framed_if at line bytes (Ok header) = counted at.frames (body_of (behind at.place line) header bytes)
 framed_if at line bytes (Err e) = Err e
 
--- the frame of a line and the bytes behind it
+-- the frame of a line and the bytes after it
 unfoldable pub frame_by_line : FramePos → List ℕ → List ℕ → Result Framed FrameFault
 frame_by_line at line bytes = framed_if at line bytes (header_at most_header header_of at.place line)
 
--- the first line of what is next, with so many bytes at most, and the bytes behind it; none where there are no bytes; a byte
--- behind the last frame is refused
+-- the next line, at most `most` bytes, and the bytes after it; `None` where there are no bytes; a byte after the last frame
+-- is rejected
 unfoldable pub next_line : (most : ℕ) → FramePos → List ℕ → Result (Option (List ℕ) × List ℕ) FrameFault
 next_line most at [] = Ok (None, [])
 next_line most at (b ∷ bytes) =
@@ -116,14 +116,14 @@ abbrev pub some_of : {Y : Type 0} → Result Y FrameFault → Result (Option Y) 
 some_of (Ok y) = Ok (Some y)
 some_of (Err e) = Err e
 
--- what a line and the bytes behind it are, where there is a line
+-- what a line and the bytes after it are read as, where there is a line
 abbrev pub by_next : {Y : Type 0} → (List ℕ → List ℕ → Result Y FrameFault) → Result (Option (List ℕ) × List ℕ) FrameFault
     → Result (Option Y) FrameFault
 by_next read (Ok (None, rest)) = Ok None
 by_next read (Ok (Some line, rest)) = some_of (read line rest)
 by_next read (Err e) = Err e
 
--- the frame that bytes begin with, none where there are no bytes
+-- the frame that bytes begin with; `None` where there are no bytes
 unfoldable pub next_frame : FramePos → List ℕ → Result (Option Framed) FrameFault
 next_frame at bytes = by_next (frame_by_line at) (next_line most_header at bytes)
 
@@ -142,7 +142,7 @@ stream_by more (Ok None) = record { frames = []; fault = None }
 stream_by more (Ok (Some framed)) = with_frame framed.frame (more framed)
 stream_by more (Err e) = record { frames = []; fault = Some e }
 
--- the frames of bytes that begin at a place, each of which takes one of so many bytes at least
+-- the frames of bytes that begin at a position; each takes one of a number of steps
 unfoldable pub frames_within : ℕ → FramePos → List ℕ → Stream
 frames_within zero at bytes = record { frames = []; fault = None }
 frames_within (suc most) at bytes = stream_by (λ framed. frames_within most framed.after framed.rest) (next_frame at bytes)
@@ -153,29 +153,29 @@ frames_from at bytes = frames_within (suc (length bytes)) at bytes
 abbrev pub start : FramePos
 start = record { place = record { at = 0; line = 1 }; frames = 0 }
 
--- the frames of a stream from its first byte on
+-- the frames of a stream from its first byte
 abbrev pub frames_of : List ℕ → Stream
 frames_of bytes = frames_from start bytes
 
--- ---- what a call answers
+-- ---- what a call returns
 
--- where a next frame may begin: each frame has moved the place by less than 2^27 bytes
+-- where a next frame may begin: each frame has moved the position by less than 2^27 bytes
 pub record IsFramePos (at : FramePos) : Type 0 where
   pub frames : at.frames ≤ most_frames
   pub place : at.place.at ≤ at.frames * 2 ^ 27
   pub line : at.place.line ≤ at.place.at + 1
 
--- a place that can be counted on behind some bytes
+-- a position that can be advanced past some bytes
 pub record IsNear (place : Place) (bytes : List ℕ) : Type 0 where
   pub at : place.at + length bytes < 2 ^ 64
   pub line : place.line + length bytes < 2 ^ 64
 
--- a place behind another by so many bytes at most, and by no more lines than bytes
+-- a position at most `most` bytes after another, and by no more lines than bytes
 pub record IsBehind (most : ℕ) (before after : Place) : Type 0 where
   pub at : after.at ≤ before.at + most
   pub line : after.line + before.at ≤ before.line + after.at
 
--- Of the bytes that were there the call gives what the definition says, and leaves what stands behind it.
+-- The call returns what the definition says of the unread bytes, and leaves what follows it unread.
 abbrev pub ReadsFrom : {X Y : Type 0} → (X → List ℕ → Y) → Result X FrameFault → Option (List ℕ) → Option (List ℕ)
     → (List ℕ → Result Y FrameFault) → Type 0
 ReadsFrom value result before after meaning =

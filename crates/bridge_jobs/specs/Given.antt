@@ -1,4 +1,4 @@
--- What words give, or why they give no job.
+-- What a command line gives, or why it isn't valid.
 use Rattle.bridge_jobs.specs.declared.given.WordsFault.TheVariants as fault
 use Rattle.bridge_io.specs.declared.name.NameFault.TheVariants as name
 use Rattle.std.specs.Prelude.{◌≡◌, Result, Ok, Err, Option, Some, None, IfOk}
@@ -9,13 +9,14 @@ abbrev pub fault_of_name : NameFault → WordsFault
 fault_of_name name.Shape = fault.NoJob
 fault_of_name name.Memory = fault.Memory
 
--- what is given, or no job exactly where nothing is; want of memory says nothing of the words
+-- what is given, or a usage error exactly where nothing is; out of memory says nothing about the words
 abbrev pub IsGiven : {A : Type 0} → Option A → Result A WordsFault → Type 0
 IsGiven given (Ok it) = given ≡ Some it
 IsGiven given (Err fault.NoJob) = given ≡ None
 IsGiven given (Err fault.Memory) = Unit {0}
 
--- The same of a job, in whose folder there is room for its files, and at whose instant a live MPD can be read.
+-- The same for a command; its directory leaves room for the names of its files, and its time is one at which a live MPD can
+-- be read.
 pub record IsJob (given : Option Job) (result : Result Job WordsFault) : Type 0 where
   pub job : IsGiven given result
   pub folder : IfOk result HasFolder

@@ -1,10 +1,10 @@
--- Headers of frames.
+-- Headers of update frames.
 use Rattle.std.specs.Prelude.{ℕ, ℤ, ◌+◌, ◌==◌, nat_le, codes, bytes_eq, List, take, drop, position, if◌then◌else◌, Option, Some, None}
 use Rattle.std.specs.Prelude.{option_map}
 use Rattle.bridge_jobs.specs.{Numbers.decimal_of, Jobs.{◌>>=◌, instant_in}, declared.header.Header.Header}
 use Rattle.bridge_jobs.specs.declared.header.Header.TheVariants.{Mpd, Reset, Tick}
 
--- what stands before a text's first space, and what stands behind it
+-- what is before a text's first space, and what is after it
 abbrev pub cut_at : List ℕ → Option ℕ → Option (List ℕ × List ℕ)
 cut_at text None = None
 cut_at text (Some space) = Some (take space text, drop (space + 1) text)
@@ -12,7 +12,7 @@ cut_at text (Some space) = Some (take space text, drop (space + 1) text)
 abbrev pub cut_at_space : List ℕ → Option (List ℕ × List ℕ)
 cut_at_space text = cut_at text (position (λ b. b == 32) text)
 
--- a body has at most so many bytes
+-- the most bytes that a body has
 abbrev pub most_bytes : ℕ
 most_bytes = 8_388_608
 
@@ -31,7 +31,7 @@ manifest_of text = do
   length ← length_of parts.1
   Some (now, length)
 
--- what stands behind a header's first word
+-- a header, by its first word and what follows it
 abbrev pub header_by : List ℕ → List ℕ → Option Header
 header_by word text =
     if bytes_eq word (codes "mpd") then option_map (λ p. Mpd p.0 p.1) (manifest_of text)
@@ -39,7 +39,7 @@ header_by word text =
     else if bytes_eq word (codes "tick") then option_map Tick (instant_in text)
     else None
 
--- the header that a line without its LF is: `mpd <instant> <length>`, `reset <instant> <length>` or `tick <instant>`
+-- a header line without its LF: `mpd <instant> <length>`, `reset <instant> <length>` or `tick <instant>`
 unfoldable pub header_of : List ℕ → Option Header
 header_of line = do
   parts ← cut_at_space line
@@ -50,7 +50,7 @@ body_length (Mpd now length) = length
 body_length (Reset now length) = length
 body_length (Tick now) = 0
 
--- the instant of a header
+-- the timestamp of a header
 abbrev pub instant_at : Header → ℤ
 instant_at (Mpd now length) = now
 instant_at (Reset now length) = now

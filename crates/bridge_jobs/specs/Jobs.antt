@@ -1,4 +1,4 @@
--- The job that words are.
+-- The command of a command line.
 use Rattle.bridge_jobs.specs.declared.verb.Verb.TheVariants as verb
 use Rattle.bridge_jobs.specs.declared.jobs.Job.TheVariants as job
 use Rattle.std.specs.Prelude.{ℕ, ℤ, ◌-◌, ◌&&◌, nat_le, Bool, codes, List, [], ◌∷◌, length, if◌then◌else◌, Option, Some, None}
@@ -16,11 +16,11 @@ found >>= next = option_and_then next found
 
 -- ---- values
 
--- the name of a file that a text is
+-- a text as the name of a file
 abbrev pub name_in : Text → Option Text
 name_in text = if is_name text then Some text else None
 
--- so many bytes leave room for what stands behind a folder's name in the name of a file
+-- the name of a directory, short enough for the names of the files in it
 abbrev pub is_folder : Text → Bool
 is_folder text = is_name text && nat_le (length text) 242
 
@@ -32,14 +32,14 @@ abbrev pub digits_in : Text → Option ℕ
 digits_in (c ∷ []) = if nat_le 51 c && nat_le c 57 then Some (c - 48) else None
 digits_in _ = None
 
--- 1 to 10 digits, with a number below 2^32
+-- 1 to 10 digits, with a value below 2^32
 abbrev pub seed_in : Text → Option ℕ
 seed_in text = decimal_of 10 text
 
 abbrev pub instant_in : Text → Option ℤ
 instant_in text = result_ok (instant_of text)
 
--- a value that may be left out is the one that is read, or none; one that can't be read is no job
+-- the value of an optional parameter, or `None` where it is absent; an invalid value is a usage error
 abbrev pub optional : {A : Type 0} → (Text → Option A) → Option Text → Option (Option A)
 optional read None = Some None
 optional read (Some text) = option_map Some (read text)
@@ -58,7 +58,7 @@ now_of rows = optional instant_in (first_of (codes "now") rows)
 unfoldable pub out_of : List Row → Option Text
 out_of rows = folder_in (unwrap_or (first_of (codes "out") rows) (codes "out"))
 
--- 6 digits, unless others are written
+-- by default 6
 abbrev pub digits_or_six : Option Text → Option ℕ
 digits_or_six None = Some 6
 digits_or_six (Some text) = digits_in text
@@ -69,7 +69,7 @@ digits_of rows = digits_or_six (first_of (codes "digits") rows)
 unfoldable pub seed_of : List Row → Option ℕ
 seed_of rows = first_of (codes "seed") rows >>= seed_in
 
--- ---- jobs
+-- ---- commands
 
 unfoldable pub hls_of : List Row → Option HlsJob
 hls_of rows = do
@@ -152,19 +152,19 @@ job_by verb.DashTimes rows = option_map job.DashTimes (master_of rows)
 job_by verb.Agree rows = option_map job.Agree (agree_of rows)
 job_by verb.FollowHls rows = option_map job.FollowHls (master_of rows)
 
--- the command of the first word
+-- the first word's command
 abbrev pub first_verb : List Text → Option Verb
 first_verb [] = None
 first_verb (word ∷ rest) = verb_of word
 
--- the first word is the command's, and the rest is read by it
+-- the first word is the command's, and the rest is parsed by it
 unfoldable pub job_of : List Text → Option Job
 job_of words = do
   command ← first_verb words
   values ← values_of command words
   job_by command values
 
--- the folder of the files that a job writes
+-- the directory of the files that a command writes
 abbrev pub folder_of : Job → Option Text
 folder_of (job.Hls j) = Some j.out
 folder_of (job.Dash j) = Some j.out
@@ -179,7 +179,7 @@ folder_of other = None
 abbrev pub HasFolder : Job → Type 0
 HasFolder job = IfSome (folder_of job) (λ folder. IsTrue (is_folder folder))
 
--- the instant at which a job reads a live MPD
+-- the time at which a command reads a live MPD
 abbrev pub now_of_job : Job → Option ℤ
 now_of_job (job.Hls j) = j.instant
 now_of_job (job.Show j) = j.instant

@@ -1,4 +1,4 @@
--- What `clap` reads of a parameter.
+-- A parameter as `clap` reads it.
 use Rattle.clap.specs.Words.{App, Rule, with_rule}
 use Rattle.bridge_jobs.specs.{declared.verb.Parameter.Parameter, declared.verb.Parameter.TheVariants.{Positional, Required, Optional}}
 use Rattle.bridge_jobs.specs.Verbs.{positional, required_option, option}

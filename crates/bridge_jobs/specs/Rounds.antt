@@ -1,4 +1,4 @@
--- Rounds: the playlists of a live presentation, all read at one instant.
+-- Snapshots: the playlists of a live presentation, all read at one time.
 use Rattle.std.specs.Prelude.{ℕ, ℤ, zero, suc, ◌-◌, ◌+◌, nat_le, codes, bytes_eq, List, [], ◌∷◌, ◌++◌, length, if◌then◌else◌, Option, Some}
 use Rattle.std.specs.Prelude.{None, option_map, Result, Ok, Err}
 use Rattle.bridge_io.specs.declared.place.Place.{Place}
@@ -6,11 +6,11 @@ use Rattle.bridge_jobs.specs.{Headers.{cut_at_space, length_of}, Jobs.{◌>>=◌
 use Rattle.bridge_jobs.specs.{Frames.by_next, declared.lengths.RoundHeader.RoundHeader, declared.round.Round.Round}
 use Rattle.bridge_jobs.specs.{declared.frame.FramePos.FramePos, declared.frame.FrameFault.FrameFault}
 
--- a header has at most so many bytes with its LF
+-- the most bytes that a header line has, with its LF
 abbrev pub most_header : ℕ
 most_header = 2_048
 
--- all bodies of a round have at most so many bytes
+-- the most bytes that all bodies of a snapshot have together
 abbrev pub most_bodies : ℕ
 most_bodies = 67_108_864
 
@@ -20,14 +20,14 @@ abbrev pub part_or_all : List ℕ → Option (List ℕ × List ℕ) → List ℕ
 part_or_all text None = (text, None)
 part_or_all text (Some parts) = (parts.0, Some parts.1)
 
--- what stands before a text's first space, and what stands behind it, if there is one
+-- what is before a text's first space, and what is after it, if there is one
 abbrev pub first_part : List ℕ → List ℕ × Option (List ℕ)
 first_part text = part_or_all text (cut_at_space text)
 
 abbrev pub within_room : ℕ → ℕ → Option ℕ
 within_room room length = if nat_le length room then Some length else None
 
--- a length that has room, and what stands behind it
+-- a length that is at most `room`, and what follows it
 unfoldable pub next_length : (room : ℕ) → Option (List ℕ) → Option (ℕ × Option (List ℕ))
 next_length room None = None
 next_length room (Some text) = do
@@ -39,7 +39,7 @@ abbrev pub none_left : Option (List ℕ) → Option (List ℕ)
 none_left None = Some []
 none_left (Some text) = None
 
--- so many lengths with one space between them, which have room together
+-- one length per track, separated by one space, at most `room` together
 unfoldable pub lengths_of : (tracks room : ℕ) → Option (List ℕ) → Option (List ℕ)
 lengths_of zero room rest = none_left rest
 lengths_of (suc tracks) room rest = next_length room rest >>= (λ x. option_map (λ lengths. x.0 ∷ lengths)
@@ -55,8 +55,8 @@ timed_lengths tracks text = do
 abbrev pub header_by : (tracks : ℕ) → List ℕ → List ℕ → Option RoundHeader
 header_by tracks word text = if bytes_eq word (codes "round") then timed_lengths tracks text else None
 
--- the header that a line without its LF is: `round <instant> <length> ..`, with a length for each track, which is 1 to 7 digits
--- and at most 8,388,608, and all together at most 67,108,864
+-- a header line without its LF: `round <instant> <length> ..`, with a length for each track, which is 1 to 7 digits and at most
+-- 8,388,608, and all together at most 67,108,864
 unfoldable pub header_of : (tracks : ℕ) → List ℕ → Option RoundHeader
 header_of tracks line = do
   parts ← cut_at_space line
@@ -64,7 +64,7 @@ header_of tracks line = do
 
 -- ---- bodies
 
--- bodies, the place behind them, and the bytes from there on
+-- bodies, the position after them, and the bytes from there on
 abbrev pub Bodies : Type 0
 Bodies = List (List ℕ) × Place × List ℕ
 
@@ -77,14 +77,14 @@ abbrev pub and_bodies : (Place → List ℕ → Result Bodies FrameFault) → Re
 and_bodies more (Ok x) = after_bodies (x.0 ∷ []) (more x.1 x.2)
 and_bodies more (Err e) = Err e
 
--- the bodies of some lengths one behind another, where the first begins at a place
+-- bodies of these lengths one after another, where the first begins at a position
 unfoldable pub bodies_of : Place → (lengths : List ℕ) → List ℕ → Result Bodies FrameFault
 bodies_of place [] bytes = Ok ([], place, bytes)
 bodies_of place (size ∷ lengths) bytes = and_bodies (λ after rest. bodies_of after lengths rest) (piece_of place size bytes)
 
--- ---- rounds
+-- ---- snapshots
 
--- a round, where the next one begins, and the bytes from there on
+-- a snapshot, where the next one begins, and the bytes from there on
 pub record Rounded : Type 0 where
   pub round : Round
   pub after : FramePos
@@ -93,7 +93,7 @@ pub record Rounded : Type 0 where
 abbrev pub rounded_as : Round → FramePos → List ℕ → Rounded
 rounded_as round at rest = record { round = round; after = at; rest = rest }
 
--- one round more
+-- one snapshot more
 abbrev pub counted : (frames : ℕ) → (now : ℤ) → Result Bodies FrameFault → Result Rounded FrameFault
 counted frames now (Ok x) = Ok (rounded_as (record { now = now; bodies = x.0 }) (record { place = x.1; frames = frames + 1 }) x.2)
 counted frames now (Err e) = Err e
@@ -102,17 +102,18 @@ abbrev pub rounded_if : FramePos → List ℕ → List ℕ → Result RoundHeade
 rounded_if at line bytes (Ok header) = counted at.frames header.now (bodies_of (behind at.place line) header.lengths bytes)
 rounded_if at line bytes (Err e) = Err e
 
--- the round of a line and the bytes behind it
+-- the snapshot of a line and the bytes after it
 unfoldable pub round_by_line : (tracks : ℕ) → FramePos → List ℕ → List ℕ → Result Rounded FrameFault
 round_by_line tracks at line bytes = rounded_if at line bytes (header_at most_header (header_of tracks) at.place line)
 
--- the round that bytes begin with, none where there are no bytes; rounds are counted, and refused, as frames are
+-- the snapshot that bytes begin with; `None` where there are no bytes; snapshots are counted, and rejected, as update
+-- frames are
 unfoldable pub next_round : (tracks : ℕ) → FramePos → List ℕ → Result (Option Rounded) FrameFault
 next_round tracks at bytes = by_next (round_by_line tracks at) (next_line most_header at bytes)
 
 -- ---- the whole stream
 
--- the rounds of a stream, and why it ends where it isn't whole
+-- the snapshots of a stream, and why it ends where it isn't whole
 abbrev pub RoundStream : Type 0
 RoundStream = List Round × Option FrameFault
 
@@ -121,7 +122,7 @@ rounds_by more (Ok None) = ([], None)
 rounds_by more (Ok (Some rounded)) = (rounded.round ∷ (more rounded).0, (more rounded).1)
 rounds_by more (Err e) = ([], Some e)
 
--- the rounds of bytes that begin at a place, each of which takes one of so many bytes at least
+-- the snapshots of bytes that begin at a position; each takes one of a number of steps
 unfoldable pub rounds_within : ℕ → (tracks : ℕ) → FramePos → List ℕ → RoundStream
 rounds_within zero tracks at bytes = ([], None)
 rounds_within (suc most) tracks at bytes = rounds_by (λ rounded. rounds_within most tracks rounded.after rounded.rest)

@@ -1,10 +1,10 @@
--- The commands and what their words may be.
+-- The commands and their parameters.
 use Rattle.std.specs.Prelude.{true, codes, bytes_eq, List, [], ◌∷◌, fold, if◌then◌else◌, Option, Some, None}
 use Rattle.clap.specs.Words.{App, Kinds, Row, Rule, Text, fault_of, matches_of, new_app, new_rule, with_rule}
 use Rattle.bridge_jobs.specs.{declared.verb.Verb.Verb, declared.verb.Verb.TheVariants.{Hls, Dash, Follow, Show, Check, Reload, Make}}
 use Rattle.bridge_jobs.specs.declared.verb.Verb.TheVariants.{HlsIndex, DashTimes, Agree, FollowHls}
 
--- a word by its place, which is required
+-- a positional word, which is required
 abbrev pub positional : Text → Rule
 positional name = record (new_rule name) { required = true }
 
@@ -15,7 +15,7 @@ option name = record (new_rule name) { long = Some name }
 abbrev pub required_option : Text → Rule
 required_option name = record (option name) { required = true }
 
--- what stands behind each command's word
+-- the parameters of each command
 abbrev pub parameters_of : Verb → List Rule
 parameters_of Hls = positional (codes "mpd") ∷ required_option (codes "base") ∷ option (codes "now") ∷ option (codes "out")
     ∷ option (codes "digits") ∷ []
@@ -44,7 +44,7 @@ word_of DashTimes = codes "dash-times"
 word_of Agree = codes "agree"
 word_of FollowHls = codes "follow-hls"
 
--- the command that a word is
+-- the command of a word
 abbrev pub verb_of : Text → Option Verb
 verb_of word =
     if bytes_eq word (codes "hls") then Some Hls
@@ -67,11 +67,11 @@ app_with word parameters = fold with_rule (new_app word) parameters
 abbrev pub app_of_verb : Verb → App
 app_of_verb verb = app_with (word_of verb) (parameters_of verb)
 
--- the matches, where nothing is at fault
+-- the matches, where nothing is invalid
 abbrev pub unless_at_fault : Kinds → List Row → Option (List Row)
 unless_at_fault [] rows = Some rows
 unless_at_fault (kind ∷ kinds) rows = None
 
--- what the words, of which the first is the command's, give its parameters, where it takes them
+-- what the words, the first of which is the command's, give its parameters, where they are valid
 unfoldable pub values_of : Verb → List Text → Option (List Row)
 values_of verb words = unless_at_fault (fault_of (app_of_verb verb) words) (matches_of (app_of_verb verb) words)

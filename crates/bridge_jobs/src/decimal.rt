@@ -5,7 +5,7 @@ ghost use Rattle.std.specs.List.{list_all};
 ghost use Rattle.std.specs.Char.{is_ascii_digit};
 ghost use Rattle.bridge_jobs.specs.Numbers.{decimal_of};
 
-/// The number that one digit or more write, at most so many, where it is below 2^32.
+/// The number of 1 to `most` digits, where it is below 2^32.
 pub fn decimal(digits: &[u8], most: usize) -> Option<u32>
     ensures { result ≡ decimal_of most digits.now }
 {
@@ -16,7 +16,7 @@ pub fn decimal(digits: &[u8], most: usize) -> Option<u32>
     text.parse::<u32>().ok()
 }
 
-/// The text that bytes are, where they are UTF-8.
+/// The bytes as text, where they are UTF-8.
 pub fn text_of(bytes: &[u8]) -> Option<&str>
     ensures { MatchOption result (¬ (IsUtf8 bytes.now)) (λ text. text.now ≡ bytes.now) }
 {

@@ -1,4 +1,4 @@
-// Frames of a stream.
+// Update frames of a stream.
 ghost use Rattle.std.specs.Prelude.{◌≡◌, ◌≢◌, ◌≤◌, ◌<◌, ◌^◌, ◌+◌, length, IfOk, IfSome, IsErrOf};
 ghost use Rattle.std.specs.Option.{option_map};
 ghost use Rattle.bridge_io.specs.Fault.{HasCause};
@@ -15,13 +15,13 @@ use iso_time::Instant;
 use std::alloc::{AllocError, Global};
 use thiserror::Error;
 
-/// How many bytes a header has at most, with its LF.
+/// The most bytes that a header line has, with its LF.
 const MAX_HEADER: usize = 64;
 
-/// How many frames a stream has at most.
+/// The most update frames that a stream has.
 const MAX_FRAMES: u64 = 10_000_000;
 
-/// One frame of a followed presentation.
+/// One update frame of a followed presentation.
 #[derive(Drop)]
 pub enum Frame {
     /// A new version of the MPD.
@@ -31,53 +31,53 @@ pub enum Frame {
         /// Its bytes.
         body: Bytes,
     },
-    /// A new version of the MPD, behind versions that were missed: a new section begins.
+    /// A new version of the MPD, after versions that were missed: a new section begins.
     Reset {
         /// When it was read.
         now: Instant,
         /// Its bytes.
         body: Bytes,
     },
-    /// The MPD stays, and time goes on.
+    /// The MPD is unchanged; only time has passed.
     Tick {
-        /// The instant that was reached.
+        /// The current time.
         now: Instant,
     },
 }
 
-/// Where a next frame may begin in a stream.
+/// The position of the next update frame in a stream.
 #[derive(Clone, Copy, PartialEq, Eq)]
 pub struct FramePos {
-    /// The place behind the frames so far.
+    /// The position after the frames so far.
     pub place: Place,
     /// How many frames there were so far.
     pub frames: u64,
 }
 
 impl FramePos {
-    /// Before the first frame.
+    /// The position before the first frame.
     pub const START: FramePos = FramePos {
         place: Place { at: 0, line: 1 },
         frames: 0,
     };
 }
 
-/// Why no frame was read.
+/// Why no update frame was read.
 #[derive(Clone, Copy, Debug, PartialEq, Eq, Error)]
 pub enum FrameFault {
-    /// A line is no header: the place of its first byte.
+    /// A line isn't a valid header: the position of its first byte.
     #[error("not a frame's header")]
     Header(Place),
-    /// The stream ends inside a frame: the place of that end.
+    /// The stream ends inside a frame: the position of that end.
     #[error("the stream ends inside a frame")]
     Cut(Place),
-    /// A byte follows the 10,000,000th frame: its place.
+    /// A byte follows the 10,000,000th frame: its position.
     #[error("more than 10,000,000 frames")]
     TooMany(Place),
     /// A read failed.
     #[error("the input can't be read")]
     Fault,
-    /// Memory is wanting.
+    /// Out of memory.
     #[error("out of memory")]
     Memory,
 }
@@ -115,11 +115,11 @@ impl From<NoMemory> for FrameFault {
     }
 }
 
-/// Reads the next frame of a stream, and moves the place behind it. There is none exactly where the stream ends at a
-/// frame's end. The place stays where no frame is read.
+/// Reads the next update frame of a stream, and moves the position past it. `None` exactly where the stream ends at a
+/// frame's end. The position doesn't change where no frame is read.
 ///
-/// A frame is a header, at most 64 bytes with its LF, and a body of the length that the header tells, at most
-/// 8,388,608 bytes. A stream has at most 10,000,000 frames.
+/// A frame is a header line, at most 64 bytes with its LF, and a body of the length in the header, at most 8,388,608
+/// bytes. A stream has at most 10,000,000 frames.
 pub fn read_frame<I: Source>(
     alloc: Global,
     input: &mut I,
@@ -145,8 +145,7 @@ pub fn read_frame<I: Source>(
     }
 }
 
-/// Reads the first line of what is next in a stream, with its LF, and so many bytes at most. There is none exactly where the
-/// stream ends.
+/// Reads the next line of a stream, with its LF, at most `most` bytes. `None` exactly where the stream ends.
 pub(crate) fn next_line<I: Source>(
     alloc: Global,
     input: &mut I,
@@ -169,7 +168,7 @@ pub(crate) fn next_line<I: Source>(
     Ok(Some(line))
 }
 
-/// Reads the frame whose first line was read, and answers it with the place behind it.
+/// Reads the frame whose header line was read, and returns it with the position after it.
 fn read_framed<I: Source>(
     alloc: Global,
     input: &mut I,
@@ -208,7 +207,7 @@ fn header_at(place: Place, line: &[u8]) -> Result<Header, FrameFault>
     }
 }
 
-/// Reads the body that begins at a place, and answers the frame with the place behind it.
+/// Reads the body that begins at a position, and returns the frame with the position after it.
 fn read_body<I: Source>(
     alloc: Global,
     input: &mut I,
@@ -228,7 +227,7 @@ fn read_body<I: Source>(
     Ok((framed(header, body), after))
 }
 
-/// Reads so many bytes from a place on, and answers them with the place behind them.
+/// Reads `length` bytes from a position on, and returns them with the position after them.
 pub(crate) fn read_piece<I: Source>(
     alloc: Global,
     input: &mut I,
@@ -250,7 +249,7 @@ pub(crate) fn read_piece<I: Source>(
     Ok((Bytes::from(body), after))
 }
 
-/// The place behind some bytes.
+/// The position after some bytes.
 pub(crate) fn behind(place: Place, bytes: &[u8]) -> Place
     requires { IsNear place bytes.now }
     ensures place { result ≡ behind place bytes.now }

@@ -1,15 +1,15 @@
-// Why words give no job.
+// Why a command line isn't valid.
 ghost use Rattle.std.specs.Prelude.{◌≡◌};
 
 use bridge_io::{NameFault, NoMemory};
 use std::alloc::AllocError;
 
-/// Why words give no job.
+/// Why a command line isn't valid.
 #[derive(Clone, Copy)]
 pub(crate) enum WordsFault {
-    /// They are none.
+    /// A usage error.
     NoJob,
-    /// Memory is wanting.
+    /// Out of memory.
     Memory,
 }
 

@@ -1,4 +1,4 @@
-// Headers of frames.
+// Headers of update frames.
 ghost use Rattle.std.specs.Prelude.{◌≡◌, ◌≤◌, ◌<◌, ◌==◌, IfSome, length, option_map, position};
 ghost use Rattle.bridge_jobs.specs.Headers.{cut_at_space, header_of, length_of, manifest_of, body_length, instant_at};
 ghost use Rattle.iso_time.specs.Instant.{IsReadable};
@@ -7,10 +7,10 @@ ghost use Rattle.bridge_jobs.specs.Jobs.{instant_in};
 use crate::decimal::{decimal, text_of};
 use iso_time::{Instant, read_instant};
 
-/// How many bytes a body has at most.
+/// The most bytes that a body has.
 const MAX_BODY: u32 = 8_388_608;
 
-/// A header: what its frame is, at which instant, and how many bytes its body has.
+/// A header: the kind of its update frame, the timestamp, and the body's length in bytes.
 #[derive(Clone, Copy, PartialEq, Eq)]
 pub enum Header {
     /// `mpd <instant> <length>`.
@@ -22,7 +22,7 @@ pub enum Header {
 }
 
 impl Header {
-    /// The header that a line without its LF is: its parts have one space between them.
+    /// Parses a header line without its LF. Its parts are separated by one space.
     #[tactic(auto, unfolding(crate::specs::Headers::header_of))]
     pub fn of(line: &[u8]) -> Option<Header>
         ensures header { result ≡ header_of line.now }
@@ -69,7 +69,7 @@ fn manifest(text: &[u8]) -> Option<(Instant, u32)>
     Some((now, length))
 }
 
-/// What stands before the first space, and what stands behind it.
+/// What is before the first space, and what is after it.
 pub(crate) fn cut_at_space(text: &[u8]) -> Option<(&[u8], &[u8])>
     ensures { option_map (λ p. (p.0.now, p.1.now)) result ≡ cut_at_space text.now }
 {
@@ -84,7 +84,7 @@ fn first_space(text: &[u8]) -> Option<usize>
     text.iter().position(|byte| *byte == b' ')
 }
 
-/// The instant that a text is.
+/// Parses a timestamp.
 pub(crate) fn instant(text: &[u8]) -> Option<Instant>
     ensures instant { result ≡ instant_in text.now }
     ensures readable { IfSome result IsReadable }
@@ -93,7 +93,7 @@ pub(crate) fn instant(text: &[u8]) -> Option<Instant>
     read_instant(text).ok()
 }
 
-/// The length of a body: 1 to 7 digits, at most 8,388,608.
+/// Parses the length of a body: 1 to 7 digits, at most 8,388,608.
 #[tactic(auto, unfolding(crate::specs::Headers::length_of))]
 pub(crate) fn body_length(digits: &[u8]) -> Option<u32>
     ensures length { result ≡ length_of digits.now }

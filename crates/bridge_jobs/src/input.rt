@@ -1,4 +1,4 @@
-// Reading of a source.
+// Reading from a source.
 ghost use Rattle.std.specs.Prelude.{◌≡◌, ◌<◌, ◌≤◌, ◌+◌, List, [], ◌∷◌, length, take, drop, IfOk, Some};
 ghost use Rattle.std.specs.Io.KnownBytes.{prepend_known, IsAtEnd};
 ghost use Rattle.bridge_io.specs.Fault.{HasCause};
@@ -9,7 +9,7 @@ ghost use Rattle.bridge_jobs.specs.Frames.{line_within};
 use bridge_io::{Bytes, Fail, Source};
 use std::alloc::Global;
 
-/// Reads bytes to the front of a buffer until it is full or the input ends, and answers how many.
+/// Reads bytes into the start of a buffer until it is full or the input ends, and returns how many.
 fn fill<I: Source>(input: &mut I, buf: &mut [u8]) -> Result<usize, Fail>
     ensures count { IfOk result (λ n. n ≤ length buf.new) }
     ensures bytes { IfOk result (λ n. TakesFront (take (length buf.new)) (take n buf.new) (I.remaining input.old) (I.remaining input.new)) }
@@ -26,7 +26,7 @@ fn fill<I: Source>(input: &mut I, buf: &mut [u8]) -> Result<usize, Fail>
     Ok(filled)
 }
 
-/// Reads one byte, none at the input's end.
+/// Reads one byte; `None` at the end of the input.
 fn read_byte<I: Source>(input: &mut I) -> Result<Option<u8>, Fail>
     ensures byte { IfOk result (λ byte. TakesByte byte (I.remaining input.old) (I.remaining input.new)) }
     ensures cause { HasCause Failed (I.faults input.old) (I.faults input.new) result }
@@ -38,7 +38,7 @@ fn read_byte<I: Source>(input: &mut I) -> Result<Option<u8>, Fail>
     Ok(Some(byte[0]))
 }
 
-/// Reads a line with its LF, and so many bytes at most. It is shorter where the input ends.
+/// Reads a line with its LF, at most `most` bytes. It has no LF where the limit or the input ends it.
 pub fn read_line<I: Source>(alloc: Global, input: &mut I, most: usize) -> Result<Bytes, Fail>
     ensures bytes { IfOk result (λ line. TakesFront (line_within most) line (I.remaining input.old) (I.remaining input.new)) }
     ensures room { IfOk result (λ line. length line ≤ most) }
@@ -57,7 +57,7 @@ pub fn read_line<I: Source>(alloc: Global, input: &mut I, most: usize) -> Result
     Ok(line)
 }
 
-/// Reads so many bytes, or all that are left where they are fewer.
+/// Reads `most` bytes, or all remaining ones where they are fewer.
 pub fn read_up_to<I: Source>(alloc: Global, input: &mut I, most: usize) -> Result<Vec<u8>, Fail>
     ensures bytes { IfOk result (λ bytes. TakesFront (take most) bytes.items (I.remaining input.old) (I.remaining input.new)) }
     ensures room { IfOk result (λ bytes. length bytes.items ≤ most) }

@@ -1,92 +1,92 @@
-// What is to be done.
+// Commands.
 use bridge_io::{Name, Text};
 use exact_time::Digits;
 use iso_time::Instant;
 
-/// What is to be done.
+/// A command with its arguments.
 ///
-/// A `base` is the URL of the folder that the store's root stands for, as it is written. An `out` is the folder of the
-/// files that are written, and has at most 242 bytes. `digits` are the decimals of printed durations. `instant` is that
-/// at which a live MPD is read.
+/// A `base` is the URL of the directory that the store's root stands for, as it is written. An `out` is the directory
+/// of the files that are written, at most 242 bytes long. `digits` is the number of decimals of printed durations.
+/// `instant` is the time at which a live MPD is read.
 #[derive(Drop)]
 pub enum Job {
-    /// An MPD to playlists.
+    /// Converts an MPD to playlists.
     Hls(HlsJob),
-    /// A master playlist and its media playlists to an MPD.
+    /// Converts a multivariant playlist (master) and its media playlists to an MPD.
     Dash(MasterJob),
-    /// The frames of a live MPD to playlists that slide.
+    /// Converts the updates of a live MPD to live (sliding-window) playlists.
     Follow(FollowJob),
-    /// A listing of the tracks and sections of an MPD or of a master playlist.
+    /// Lists the tracks and sections of an MPD or of a master playlist.
     Show(ShowJob),
-    /// A comparison of what an MPD and a master playlist mean.
+    /// Compares what an MPD and a master playlist mean.
     Check(CheckJob),
-    /// Whether a media playlist lawfully reloads another (RFC 8216, 6.2.1).
+    /// Checks whether a media playlist is a valid update of another (RFC 8216, 6.2.1).
     Reload(ReloadJob),
-    /// A made MPD of many segments, to playlists.
+    /// Generates an MPD of many segments, and converts it to playlists.
     Make(MakeJob),
-    /// An MPD whose files have an index (SegmentBase; ISO/IEC 23009-1, 5.3.9.2) to playlists.
+    /// Converts an MPD with SegmentBase (ISO/IEC 23009-1, 5.3.9.2), whose files have a `sidx`, to playlists.
     HlsIndex(IndexJob),
-    /// A master playlist and its media playlists to an MPD, with the decode times of the files.
+    /// Converts a master playlist and its media playlists to an MPD, with the decode times (`tfdt`) of the files.
     DashTimes(MasterJob),
-    /// Whether the times of an MPD are the decode times of its files.
+    /// Checks whether the times of an MPD are the decode times (`tfdt`) of its files.
     Agree(AgreeJob),
-    /// Rounds of live media playlists to an MPD.
+    /// Converts snapshots of live media playlists to an MPD.
     FollowHls(MasterJob),
 }
 
-/// An MPD whose playlists are to be written.
+/// The arguments of `hls`.
 #[derive(Drop)]
 pub struct HlsJob {
     /// The MPD's file.
     pub mpd: Name,
     /// The URL of the store's root.
     pub base: Text,
-    /// The instant of a live MPD.
+    /// The time at which a live MPD is read.
     pub instant: Option<Instant>,
-    /// The folder of the playlists.
+    /// The directory of the playlists.
     pub out: Name,
     /// The decimals of printed durations.
     pub digits: Digits,
 }
 
-/// A master whose MPD is to be written.
+/// The arguments of the commands that convert a master playlist to an MPD.
 #[derive(Drop)]
 pub struct MasterJob {
     /// The master playlist's file.
     pub master: Name,
     /// The URL of the store's root.
     pub base: Text,
-    /// The folder of the MPD.
+    /// The directory of the MPD.
     pub out: Name,
 }
 
-/// A live MPD that is to be followed.
+/// The arguments of `follow`.
 #[derive(Drop)]
 pub struct FollowJob {
-    /// The name that the MPD is read under.
+    /// The MPD's name below the base. The file isn't read.
     pub name: Name,
     /// The URL of the store's root.
     pub base: Text,
-    /// The folder of the playlists.
+    /// The directory of the playlists.
     pub out: Name,
     /// The decimals of printed durations.
     pub digits: Digits,
 }
 
-/// A manifest whose tracks and sections are to be told.
+/// The arguments of `show`.
 #[derive(Drop)]
 pub struct ShowJob {
     /// The file of an MPD or of a master playlist.
     pub file: Name,
     /// The URL of the store's root.
     pub base: Text,
-    /// The instant of a live MPD.
+    /// The time at which a live MPD is read.
     pub instant: Option<Instant>,
     /// The decimals of lengths.
     pub digits: Digits,
 }
 
-/// An MPD and a master that are to be compared.
+/// The arguments of `check`.
 #[derive(Drop)]
 pub struct CheckJob {
     /// The MPD's file.
@@ -99,42 +99,42 @@ pub struct CheckJob {
     pub digits: Digits,
 }
 
-/// A media playlist that is to take the place of an older one (RFC 8216, 6.2.1).
+/// The arguments of `reload`: two versions of a media playlist (RFC 8216, 6.2.1).
 #[derive(Drop)]
 pub struct ReloadJob {
-    /// The file of the playlist before.
+    /// The file of the old version.
     pub old: Name,
-    /// The file of the playlist after it.
+    /// The file of the new version.
     pub new: Name,
     /// The URL of the store's root.
     pub base: Text,
 }
 
-/// An MPD that is to be made, with its playlists.
+/// The arguments of `make`.
 #[derive(Drop)]
 pub struct MakeJob {
-    /// The number that the MPD is made from.
+    /// The seed that the MPD is generated from.
     pub seed: u32,
-    /// The folder of the MPD and of the playlists.
+    /// The directory of the MPD and of the playlists.
     pub out: Name,
     /// The decimals of printed durations.
     pub digits: Digits,
 }
 
-/// An MPD whose media files have an index inside, and whose playlists are to be written.
+/// The arguments of `hls-index`.
 #[derive(Drop)]
 pub struct IndexJob {
     /// The MPD's file.
     pub mpd: Name,
     /// The URL of the store's root.
     pub base: Text,
-    /// The folder of the playlists.
+    /// The directory of the playlists.
     pub out: Name,
     /// The decimals of printed durations.
     pub digits: Digits,
 }
 
-/// An MPD whose times are to be compared with those that its media files state.
+/// The arguments of `agree`.
 #[derive(Drop)]
 pub struct AgreeJob {
     /// The MPD's file.

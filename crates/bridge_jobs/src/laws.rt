@@ -2,34 +2,34 @@
 ghost use Rattle.bridge_jobs.specs.CommandLines.{CommandLinesAreRead};
 ghost use Rattle.bridge_jobs.specs.Laws.{FoldersHoldTheirFiles, FramesFollow, PlacesAreOfTheStream, RoundsFollow};
 
-/// In a folder that a job may have, each file that is written has a name: `t<k>.m3u8` with k up to 199,
-/// `master.m3u8`, `manifest.mpd`, `source.mpd` and `live.mpd`.
+/// In each directory that a command accepts, each file that is written has a valid name: `t<k>.m3u8` with k up to
+/// 199, `master.m3u8`, `manifest.mpd`, `source.mpd` and `live.mpd`.
 pub fn folders_hold_their_files()
     ensures { FoldersHoldTheirFiles }
 {}
 
-/// The frames of a stream are those that are read one after another.
+/// The update frames of a stream are those that are read one after another.
 pub fn frames_follow()
     ensures { FramesFollow }
 {}
 
-/// The rounds of a stream are those that are read one after another.
+/// The snapshots of a stream are those that are read one after another.
 pub fn rounds_follow()
     ensures { RoundsFollow }
 {}
 
-/// The places of frames are those of their bytes in the whole stream.
+/// The positions of frames are those of their bytes in the whole stream.
 pub fn places_are_of_the_stream()
     ensures { PlacesAreOfTheStream }
 {}
 
-/// What the words of each command may be, and what they give.
+/// How command lines are parsed, for each command.
 ///
-/// Behind the command's own word stand its files, which are known by their places, and its options, in any order.
-/// An option is `--name=value`, with any value, or `--name value`, where the value doesn't begin with a hyphen or is `-`
-/// alone; an empty value is a value. Each word behind `--` takes a place, whatever it looks like. An option that the
-/// command doesn't have, one without its value, one that stands twice, a short option, a request for help, a word that
-/// no place is left for, and a missing file or required option are no job.
+/// The command word is followed by its files, which are positional, and its options, in any order. An option is
+/// `--name=value`, with any value, or `--name value`, where the value doesn't begin with a hyphen or is `-` alone; an
+/// empty value is a value. Each word after `--` is positional, whatever it looks like. These are usage errors: an option
+/// that the command doesn't have, one without its value, one that is repeated, a short option, a request for help, a
+/// surplus positional word, and a missing file or required option.
 pub fn command_lines_are_read()
     ensures { CommandLinesAreRead }
 {}

@@ -1,4 +1,4 @@
-// Headers of rounds.
+// Headers of snapshots.
 ghost use Rattle.std.specs.Prelude.{◌≡◌, ◌≤◌, length, sum, option_map, IfOk, IfSome};
 ghost use Rattle.std.specs.Option.{option_copied};
 ghost use Rattle.iso_time.specs.Instant.{IsReadable};
@@ -9,10 +9,10 @@ use bridge_io::{NoMemory, Sequence};
 use iso_time::Instant;
 use std::alloc::Global;
 
-/// How many bytes all bodies of a round have at most.
+/// The most bytes that all bodies of a snapshot have together.
 const MAX_BODIES: u32 = 67_108_864;
 
-/// `round <instant> <length> ..`: when the playlists of a round were read, and how many bytes each has.
+/// `round <instant> <length> ..`: when the playlists of a snapshot were read, and how many bytes each has.
 #[derive(Drop)]
 pub struct RoundHeader {
     pub now: Instant,
@@ -20,7 +20,7 @@ pub struct RoundHeader {
 }
 
 impl RoundHeader {
-    /// The header that a line without its LF is, with a length for each track: its parts have one space between them.
+    /// Parses a header line without its LF, with a length for each track. Its parts are separated by one space.
     #[tactic(auto, unfolding(crate::specs::Rounds::header_of))]
     pub fn of(alloc: Global, line: &[u8], tracks: usize) -> Result<Option<RoundHeader>, NoMemory>
         ensures header { IfOk result (λ header. header ≡ header_of tracks line.now) }
@@ -55,7 +55,7 @@ fn timed_lengths(alloc: Global, text: &[u8], tracks: usize) -> Result<Option<Rou
     Ok(Some(RoundHeader { now, lengths }))
 }
 
-/// So many lengths with one space between them, which are at most 67,108,864 together.
+/// Parses one length per track, separated by one space; together they are at most 67,108,864.
 fn lengths(
     alloc: Global,
     text: Option<&[u8]>,
@@ -82,7 +82,7 @@ fn lengths(
     Ok(Some(lengths))
 }
 
-/// A length that has room, and what stands behind it.
+/// A length that is at most `room`, and what follows it.
 #[tactic(auto, unfolding(crate::specs::Rounds::next_length))]
 fn next_length(room: u32, text: Option<&[u8]>) -> Option<(u32, Option<&[u8]>)>
     ensures next { option_map (λ x. (x.0, option_copied x.1)) result ≡ next_length room (option_copied text.entry) }
@@ -96,7 +96,7 @@ fn next_length(room: u32, text: Option<&[u8]>) -> Option<(u32, Option<&[u8]>)>
     Some((length, rest))
 }
 
-/// What stands before the first space, and what stands behind it, if there is one.
+/// What is before the first space, and what is after it, if there is one.
 fn first_part(text: &[u8]) -> (&[u8], Option<&[u8]>)
     ensures { (result.0.now, option_copied result.1) ≡ first_part text.now }
 {

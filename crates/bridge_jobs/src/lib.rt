@@ -1,4 +1,4 @@
-//! What the bridge is asked to do: the words of its command line, and the frames of a followed presentation.
+//! The input of the bridge: its command line, and the update frames of a followed presentation.
 #![tactic(auto)]
 
 mod decimal;

@@ -1,4 +1,4 @@
-// Rounds of a stream.
+// Snapshots in a stream.
 ghost use Rattle.std.specs.Prelude.{◌≡◌, ◌≤◌, ◌<◌, ◌^◌, ◌+◌, length, sum, IfOk, IfSome, IsErrOf};
 ghost use Rattle.std.specs.Option.{option_map};
 ghost use Rattle.iso_time.specs.Instant.{IsReadable};
@@ -14,26 +14,27 @@ use bridge_io::{Bytes, Place, Sequence, Source};
 use iso_time::Instant;
 use std::alloc::Global;
 
-/// How many bytes a header has at most, with its LF.
+/// The most bytes that a header line has, with its LF.
 const MAX_HEADER: usize = 2048;
 
-/// The bodies of a round: the bytes of media playlists.
+/// The bodies of a snapshot: the bytes of media playlists.
 pub type BodyList = Sequence<Bytes>;
 
-/// The media playlists of a live presentation, all read at one instant.
+/// A snapshot of the media playlists of a live presentation, all read at one time.
 #[derive(Drop)]
 pub struct Round {
     /// When they were read.
     pub now: Instant,
-    /// Their bytes, by the tracks of the master playlist.
+    /// Their bytes, in the order of the master playlist's tracks.
     pub bodies: BodyList,
 }
 
-/// Reads the next round of a stream, and moves the place behind it. There is none exactly where the stream ends at a
-/// round's end. The place stays where no round is read.
+/// Reads the next snapshot of a stream, and moves the position past it. `None` exactly where the stream ends at a snapshot's
+/// end. The position doesn't change where no snapshot is read.
 ///
-/// A round is a header, at most 2,048 bytes with its LF, and a body for each track, of the lengths that the header tells: at
-/// most 8,388,608 bytes each, and 67,108,864 together. A stream has at most 10,000,000 rounds, which are refused as frames are.
+/// A snapshot is a header line, at most 2,048 bytes with its LF, and a body for each track, of the lengths in the header: at
+/// most 8,388,608 bytes each, and 67,108,864 together. A stream has at most 10,000,000 snapshots. Errors are those of update
+/// frames.
 pub fn read_round<I: Source>(
     alloc: Global,
     input: &mut I,
@@ -61,7 +62,7 @@ pub fn read_round<I: Source>(
     }
 }
 
-/// Reads the round whose first line was read, and answers it with the place behind it.
+/// Reads the snapshot whose header line was read, and returns it with the position after it.
 fn read_rounded<I: Source>(
     alloc: Global,
     input: &mut I,
@@ -109,7 +110,7 @@ fn round_header(
     }
 }
 
-/// Reads bodies of these lengths one behind another from a place on, and answers them with the place behind them.
+/// Reads bodies of these lengths one after another from a position on, and returns them with the position after them.
 fn read_bodies<I: Source>(
     alloc: Global,
     input: &mut I,

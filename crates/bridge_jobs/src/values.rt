@@ -1,4 +1,4 @@
-// The values that words give a command's parameters.
+// The values of a command's parameters.
 ghost use Rattle.std.specs.Prelude.{◌≡◌, ℕ, List, map, option_map, IfOk, IfSome, IsTrue};
 ghost use Rattle.bridge_jobs.specs.Given.{IsGiven};
 ghost use Rattle.bridge_jobs.specs.Jobs.{base_of, digits_in, digits_of, file_of, folder_in, is_folder, name_in, now_of, out_of, seed_of};
@@ -16,7 +16,7 @@ use iso_time::{Instant, read_instant};
 use std::alloc::Global;
 use std::marker::Model;
 
-/// What words give a command's parameters.
+/// The values of a command's parameters, by the command line.
 #[derive(Drop)]
 pub struct Values<'a> {
     matches: ArgMatches<'a>,
@@ -31,13 +31,13 @@ impl<'a> Model for Values<'a> {
     ghost view = { λ v. rows_of (found_of v.matches) };
 }
 
-/// How many bytes the name of a folder has at most, so that the names of the files in it are names.
+/// The most bytes that the name of a directory has, so that the names of the files in it are valid.
 const MAX_FOLDER: usize = 242;
 
 impl<'a> Values<'a> {
     ghost use Rattle.clap.specs.Words.{first_of};
 
-    /// What the words, of which the first is the command's, give its parameters, where it takes them.
+    /// Parses the words, the first of which is the command's, as its parameters.
     #[tactic(auto, unfolding(crate::specs::Verbs::values_of))]
     pub fn of(alloc: Global, verb: Verb, words: &'a [&'a str]) -> Result<Values<'a>, WordsFault>
         ensures { IsGiven (values_of verb (map (λ word. word.now) words.entry.now)) result }
@@ -66,7 +66,7 @@ impl<'a> Values<'a> {
         Ok(Name::read(alloc, text)?)
     }
 
-    /// The URL of the store's folder, as it is written.
+    /// The URL of the store's root, as it is written.
     #[tactic(auto, unfolding(crate::specs::Jobs::base_of))]
     pub fn base(&self, alloc: Global) -> Result<Text, WordsFault>
         ensures { IsGiven (base_of self.now) result }
@@ -75,7 +75,7 @@ impl<'a> Values<'a> {
         Ok(Text::copy_of(alloc, text)?)
     }
 
-    /// The instant of the job, where it is written.
+    /// The value of `--now`, where it is given.
     #[tactic(auto, unfolding(crate::specs::Jobs::now_of))]
     pub fn now(&self) -> Result<Option<Instant>, WordsFault>
         ensures now { IsGiven (now_of self.now) result }
@@ -90,7 +90,7 @@ impl<'a> Values<'a> {
         }
     }
 
-    /// The folder of the files that are written: `out`, unless another is written.
+    /// The directory of the files that are written: `out` by default.
     #[tactic(auto, unfolding(crate::specs::Jobs::out_of))]
     pub fn out(&self, alloc: Global) -> Result<Name, WordsFault>
         ensures name { IsGiven (out_of self.now) result }
@@ -99,7 +99,7 @@ impl<'a> Values<'a> {
         folder(alloc, self.text("out").unwrap_or("out"))
     }
 
-    /// The decimals of printed durations: 6, unless one character of `3` to `9` is written.
+    /// The decimals of printed durations: `3` to `9`, by default 6.
     #[tactic(auto, unfolding(crate::specs::Jobs::digits_of))]
     pub fn digits(&self) -> Result<Digits, WordsFault>
         ensures { IsGiven (digits_of self.now) result }
@@ -110,7 +110,7 @@ impl<'a> Values<'a> {
         }
     }
 
-    /// The seed of a made MPD: 1 to 10 digits, with a number below 2^32.
+    /// The seed of a generated MPD: 1 to 10 digits, with a value below 2^32.
     #[tactic(auto, unfolding(crate::specs::Jobs::seed_of))]
     pub fn seed(&self) -> Result<u32, WordsFault>
         ensures { IsGiven (seed_of self.now) result }

@@ -1,45 +1,45 @@
-// The commands and what their words may be.
+// The commands and their parameters.
 ghost use Rattle.std.specs.Prelude.{◌≡◌, map, false, IfOk};
 ghost use Rattle.clap.specs.Words.{app_of, rule_of};
 
 use clap::{Arg, Command};
 use std::alloc::{AllocError, Global};
 
-/// A command: the first word of a command line.
+/// A command, named by the first word of a command line.
 #[derive(Clone, Copy, PartialEq, Eq)]
 pub enum Verb {
-    /// An MPD to playlists.
+    /// Converts an MPD to playlists.
     Hls,
-    /// Playlists to an MPD.
+    /// Converts playlists to an MPD.
     Dash,
-    /// Frames of a live MPD to playlists that slide.
+    /// Converts the updates of a live MPD to live (sliding-window) playlists.
     Follow,
-    /// The tracks and sections of an MPD or of a master playlist.
+    /// Lists the tracks and sections of an MPD or of a master playlist.
     Show,
-    /// Whether an MPD and a master playlist mean the same.
+    /// Checks whether an MPD and a master playlist mean the same.
     Check,
-    /// Whether a media playlist lawfully reloads another.
+    /// Checks whether a media playlist is a valid update of another.
     Reload,
-    /// An MPD of many segments, to playlists.
+    /// Generates an MPD of many segments, and converts it to playlists.
     Make,
-    /// An MPD whose files have an index, to playlists.
+    /// Converts an MPD whose files have a `sidx` to playlists.
     HlsIndex,
-    /// Playlists to an MPD, with the times of their files.
+    /// Converts playlists to an MPD, with the decode times of their files.
     DashTimes,
-    /// Whether an MPD's times are those of its files.
+    /// Checks whether an MPD's times are the decode times of its files.
     Agree,
-    /// Rounds of live playlists to an MPD.
+    /// Converts snapshots of live playlists to an MPD.
     FollowHls,
 }
 
-/// A word or two behind a command's own word, by its name.
+/// A parameter of a command, by its name.
 #[derive(Clone, Copy)]
 pub enum Parameter {
-    /// A word, known by its place.
+    /// A positional word.
     Positional(&'static str),
-    /// `--name=value` or `--name value`, which can't be left out.
+    /// `--name=value` or `--name value`, which is required.
     Required(&'static str),
-    /// `--name=value` or `--name value`, which may be left out.
+    /// `--name=value` or `--name value`, which is optional.
     Optional(&'static str),
 }
 
@@ -109,7 +109,7 @@ impl Verb {
     ghost use Rattle.bridge_jobs.specs.Verbs.{app_of_verb, parameters_of, verb_of, word_of};
     ghost use Rattle.bridge_jobs.specs.Parameters.{rule_of_parameter};
 
-    /// The command that a word is.
+    /// The command of a word.
     pub fn of(word: &str) -> Option<Verb>
         ensures { result ≡ verb_of word.now }
     {

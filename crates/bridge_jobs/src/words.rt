@@ -1,4 +1,4 @@
-// The job that words are.
+// Parsing of command lines.
 ghost use Rattle.std.specs.Prelude.{◌≡◌, IfOk, IfSome, IsTrue, map};
 ghost use Rattle.bridge_jobs.specs.Given.{IsGiven, IsJob};
 ghost use Rattle.bridge_jobs.specs.Jobs.{HasFolder, HasReadableNow, agree_of, check_of, first_verb, follow_of, hls_of, index_of, is_folder};
@@ -14,7 +14,7 @@ use crate::verb::Verb;
 use bridge_io::{NoMemory, Text};
 use std::alloc::{AllocError, Global};
 
-/// The job that the words of a command line are, without the program's own name, or none.
+/// Parses a command line, without the program's own name. `None` is a usage error.
 pub fn job(alloc: Global, words: &[Text]) -> Result<Option<Job>, NoMemory>
     ensures job { IfOk result (λ job. job ≡ job_of words.now) }
     ensures folder { IfOk result (λ job. IfSome job HasFolder) }
@@ -47,7 +47,7 @@ fn job_in(alloc: Global, words: &[&str]) -> Result<Job, WordsFault>
     job_by(alloc, verb, &values)
 }
 
-/// The command of the first word.
+/// The first word's command.
 fn first_verb(words: &[&str]) -> Result<Verb, WordsFault>
     ensures { IsGiven (first_verb (map (λ word. word.now) words.now)) result }
 {

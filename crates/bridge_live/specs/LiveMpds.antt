@@ -1,4 +1,4 @@
--- A followed MPD: what its frames are, why one is refused, and what is written of what the accepted ones leave.
+-- A followed MPD: its update frames, why one is rejected, and the files for the state after the accepted ones.
 use Rattle.bridge_jobs.specs.declared.frame.Frame.TheVariants as frame
 use Rattle.live_meaning.specs.Refusals as rules
 use Rattle.bridge_report.specs.declared.refusal.Refusal.TheVariants as refusal
@@ -16,9 +16,9 @@ use Rattle.bridge_report.specs.{Following.Followed, Refusals.{refusal_text, refu
 use Rattle.bridge_report.specs.declared.refusal.Stop.{Stop}
 use Rattle.bridge_steps.specs.{Manifests.values_of, Streams.Stream}
 
--- ---- why a frame is refused
+-- ---- why a frame is rejected
 
--- a rule that an update breaks, as the report tells it
+-- a rule that an update breaks, as in the report
 abbrev pub told_of : rules.Refusal → Refusal
 told_of (rules.ClockBack former now) = refusal.Session update.ClockBack
 told_of (rules.Older former new) = refusal.Session update.Older
@@ -34,21 +34,21 @@ told_of (rules.Presentation fault) = refusal.Presentation fault
 told_of (rules.Uneven track first last) = refusal.Session update.Uneven
 told_of rules.NotOpen = refusal.NotOpen
 
--- ---- what frames leave
+-- ---- the state after frames
 
--- the update that a frame is, where its bytes are an MPD's
+-- the update of a frame, where its bytes are those of an MPD
 unfoldable pub update_of : Frame → Result Update Refusal
 update_of (frame.Mpd now body) = and_then (values_of body) (λ mpd. Ok (Refresh mpd now))
 update_of (frame.Reset now body) = and_then (values_of body) (λ mpd. Ok (Reset mpd now))
 update_of (frame.Tick now) = Ok (Tick now)
 
--- the state that a first frame leaves, which is an MPD, or its first refusal
+-- the state after a first frame, which has to be an MPD, or its first error
 unfoldable pub first_state : Terms → Frame → Result State Refusal
 first_state terms (frame.Mpd now body) = and_then (values_of body) (λ mpd. told_as told_of (rules.begun_of terms mpd now))
 first_state terms (frame.Reset now body) = Err refusal.NotOpen
 first_state terms (frame.Tick now) = Err refusal.NotOpen
 
--- the state that a frame leaves behind others, or its first refusal
+-- the state after a further frame, or its first error
 unfoldable pub next_state : State → Frame → Result State Refusal
 next_state s x = and_then (update_of x) (λ u. told_as told_of (rules.next_of s u))
 
@@ -58,7 +58,7 @@ frame_state terms (Some s) x = next_state s x
 
 -- ---- how many segments frames append
 
--- none at a refusal, but for that of a segment's address: then as many as it was to append
+-- 0 for an error, except that of a segment's URL: then as many as it was to append
 unfoldable pub first_appends : Terms → Frame → ℕ
 first_appends terms (frame.Mpd now body) = option_map_or (λ mpd. rules.first_appended_by terms mpd now) (result_ok (values_of body)) 0
 first_appends terms (frame.Reset now body) = 0
@@ -71,12 +71,12 @@ abbrev pub frame_appends : Terms → Option State → Frame → ℕ
 frame_appends terms None x = first_appends terms x
 frame_appends terms (Some s) x = next_appends s x
 
--- so many segments are made, or at most so many where the answer is an error
+-- `n` segments are made, or at most `n` where the result is an error
 abbrev pub AreMade : {X E : Type 0} → (n before after : ℕ) → Result X E → Type 0
 AreMade n before after (Ok x) = after ≡ before + n
 AreMade n before after (Err e) = (before ≤ after) × (after ≤ before + n)
 
--- what a session answered, in the report's terms
+-- a session's result, in the report's terms
 abbrev pub IsTaken : Result Appended RefreshFault → Result ℕ Stop → Type 0
 IsTaken (Ok appended) (Ok n) = n ≡ appended.0
 IsTaken (Err fault) (Err stop) = refused_in stop ≡ option_map told_of (told fault)
@@ -97,7 +97,8 @@ track_files out s = map (track_file out s) (range_with_len 0 (length s.tracks))
 abbrev pub master_file : (out : List ℕ) → State → List ℕ × List ℕ
 master_file out s = (in_folder out (codes "master.m3u8"), master_text s.common.opened)
 
--- the playlists of the tracks in order, and behind the first accepted frame the master last, which is that of the first MPD
+-- the playlists of the tracks in order, and after the first accepted frame the master playlist last, which is that of the
+-- first MPD
 abbrev pub live_files : (out : List ℕ) → State → List (List ℕ × List ℕ)
 live_files out s = track_files out s ++ (if s.common.accepted == 1 then master_file out s ∷ [] else [])
 

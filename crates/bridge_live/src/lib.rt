@@ -1,5 +1,5 @@
-//! A followed MPD: the session that its first version begins, what each further frame appends, and the playlists that are written
-//! after it.
+//! A followed MPD: the session that its first version begins, what each further update frame appends, and the playlists that are
+//! written after it.
 #![tactic(auto)]
 
 mod live_files;

@@ -12,11 +12,11 @@ use hls_writer::OutFault;
 use live_session::Session;
 use std::alloc::Global;
 
-/// Writes the playlists of a followed presentation to the files of a folder: that of each track in order, and behind the first
-/// accepted frame the master last.
+/// Writes the playlists of a followed presentation to the files of a folder: that of each track in order, and after the first
+/// accepted frame the master playlist last.
 ///
-/// An error leaves the files before one of them whole, and that one as it was or a front of its text.
-/// [`OutFault::WriteFault`] comes only where the store's count of failed writes rose.
+/// After an error the files before one of them are complete, and that one is as it was or truncated. [`OutFault::WriteFault`]
+/// comes only where the store's count of failed writes rose.
 pub fn write_live_files<F: Store>(
     alloc: Global,
     out: &Name,

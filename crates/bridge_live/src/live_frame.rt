@@ -1,4 +1,4 @@
-// Frames of a followed MPD, by its session.
+// Update frames of a followed MPD, by its session.
 ghost use Rattle.std.specs.Prelude.{◌≡◌, ◌<◌, Some, IfOk, OnErr, option_map};
 ghost use Rattle.bridge_io.specs.Answer.{Gives};
 ghost use Rattle.iso_time.specs.Instant.{IsReadable};
@@ -26,7 +26,7 @@ use presentation::answers_allow_listings;
 use std::alloc::Global;
 use url_parts::Base;
 
-/// The session that an MPD begins at an instant, or why it begins none.
+/// The session that an MPD begins at a time, or why it begins none.
 pub fn begin_session<L: Ledger>(
     alloc: Global,
     url: &Base,
@@ -48,7 +48,7 @@ pub fn begin_session<L: Ledger>(
     }
 }
 
-/// The session that a first frame begins, or why it is refused.
+/// The session that a first frame begins, or why it is rejected.
 #[tactic(auto, unfolding(crate::specs::LiveMpds::first_state, crate::specs::LiveMpds::first_appends))]
 pub(crate) fn first_frame<L: Ledger>(
     alloc: Global,
@@ -78,7 +78,7 @@ pub(crate) fn first_frame<L: Ledger>(
     }
 }
 
-/// Takes a frame behind the first one, and answers how many segments it appended; or why it is refused.
+/// Applies a frame after the first one, and returns how many segments it appended; or why it is rejected.
 #[tactic(auto, unfolding(crate::specs::LiveMpds::next_state, crate::specs::LiveMpds::next_appends, crate::specs::LiveMpds::update_of))]
 pub(crate) fn next_frame<L: Ledger>(
     alloc: Global,
@@ -121,7 +121,7 @@ fn values_in(alloc: Global, body: &Bytes) -> Result<Mpd, Stop>
     }
 }
 
-/// What the session answered, in the report's terms.
+/// The session's result, in the report's terms.
 fn taken(answer: Result<Appended, RefreshFault>) -> Result<u64, Stop>
     ensures { spec.IsTaken answer result }
 {
@@ -131,7 +131,7 @@ fn taken(answer: Result<Appended, RefreshFault>) -> Result<u64, Stop>
     }
 }
 
-/// A rule that an update breaks, as the report tells it.
+/// A rule that an update breaks, as in the report.
 fn stop_of(fault: RefreshFault) -> Stop
     ensures { refused_in result ≡ option_map spec.told_of (faults.told fault) }
 {

@@ -16,7 +16,7 @@ use live_session::Session;
 use std::alloc::Global;
 use url_parts::Base;
 
-/// An MPD that is followed, by frames of it and of time.
+/// An MPD that is followed, by update frames.
 #[derive(Drop)]
 pub struct LiveMpd {
     /// The MPD's own URL.

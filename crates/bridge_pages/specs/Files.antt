@@ -1,4 +1,4 @@
--- What the store and the report of a run in memory hold.
+-- The contents of the store and the report of a run in memory.
 use Rattle.std.specs.Prelude.{ℕ, List}
 use Rattle.bridge_ends.specs.InMemory.{files_in, written_to}
 use Rattle.bridge_io.specs.Outside.{Files}

@@ -1,4 +1,4 @@
--- What a run left.
+-- The result of a run.
 use Rattle.std.specs.Prelude.{ℕ, List}
 use Rattle.bridge_pages.specs.declared.made.Made.{Made}
 use Rattle.bridge_pages.specs.{Files.{files_at, report_at}, Runs.page_left}

@@ -1,7 +1,8 @@
 -- Which files a manifest needs beside its own: each media playlist that a master names, and each media file of an MPD whose
 -- media files have an index inside.
 use Rattle.bridge_pages.specs.declared.verb.Verb.TheVariants as verb
-use Rattle.std.specs.{Prelude.{ℕ, ◌+◌, max, List, [], ◌∷◌, ◌++◌, Option, Some, None, Result, Ok, Err}, Option.option_map_or}
+use Rattle.std.specs.Prelude.{ℕ, ◌+◌, max, nat_lt, List, [], ◌∷◌, ◌++◌, length, if◌then◌else◌, Option, Some, None, Result, Ok, Err}
+use Rattle.std.specs.Option.{option_map_or}
 use Rattle.bridge_playlists.specs.{declared.place.StorePlace.StorePlace, Places.store_place_of}
 use Rattle.bridge_reach.specs.Index.{values_of}
 use Rattle.bridge_report.specs.declared.refusal.Refusal.{Refusal}
@@ -62,9 +63,11 @@ fronts_behind place fronts (row ∷ rows) = fronts_behind place (with_row place 
 abbrev pub needs_with : Fronts → Needs
 needs_with fronts = record { names = fronts.names; most = Some fronts.end }
 
+-- a Period of more than 200 Representations is refused before any media file is read
 abbrev pub media_of : StorePlace → List Period → Needs
 media_of place [] = nothing
-media_of place (period ∷ later) = needs_with (fronts_behind place no_fronts period.tracks)
+media_of place (period ∷ later) =
+    if nat_lt 200 (length period.tracks) then nothing else needs_with (fronts_behind place no_fronts period.tracks)
 
 abbrev pub media_by : StorePlace → Result (TypedMpd (Option IndexRow)) Refusal → Needs
 media_by place (Ok mpd) = media_of place mpd.periods

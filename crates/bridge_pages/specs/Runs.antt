@@ -1,4 +1,4 @@
--- What a run leaves in memory of the files that were read, and the pages of it.
+-- The result of a run in memory over the files that were read, and its pages.
 use Rattle.bridge_courses.specs.declared.status.Status.TheVariants as status
 use Rattle.bridge_courses.specs.declared.status.Verdict.TheVariants as verdict
 use Rattle.bridge_pages.specs.declared.verb.Verb.TheVariants as verb
@@ -13,7 +13,7 @@ use Rattle.bridge_pages.specs.declared.verb.Verb.{Verb}
 
 -- ---- words
 
--- a playlist, by the end of its name, is a master whose MPD is made
+-- a playlist, by the end of its name, is a master playlist whose MPD is made
 abbrev pub verb_of : (indexed : Bool) → (manifest : List ℕ) → Verb
 verb_of indexed manifest =
     if ends_with nat_eq manifest (codes ".m3u8") then verb.Dash else (if indexed then verb.HlsIndex else verb.Hls)
@@ -23,14 +23,14 @@ word_of verb.Hls = codes "hls"
 word_of verb.HlsIndex = codes "hls-index"
 word_of verb.Dash = codes "dash"
 
--- an instant is of live MPDs
+-- a time is for live MPDs
 abbrev pub with_now : Verb → Option (List ℕ) → List (List ℕ) → List (List ℕ)
 with_now verb.Hls (Some now) words = words ++ (codes "--now=" ++ now) ∷ []
 with_now verb.Hls None words = words
 with_now verb.HlsIndex now words = words
 with_now verb.Dash now words = words
 
--- what is written lies in a folder of the manifest's name
+-- the files are written to a folder of the manifest's name
 abbrev pub words_by : Verb → (base : List ℕ) → (now : Option (List ℕ)) → (manifest : List ℕ) → List (List ℕ)
 words_by verb base now manifest =
     with_now verb now (word_of verb ∷ manifest ∷ (codes "--base=" ++ base) ∷ (codes "--out=" ++ manifest) ∷ [])
@@ -40,7 +40,7 @@ words_by verb base now manifest =
 abbrev pub no_files : Files
 no_files name = None
 
--- the files that were read, put one after another
+-- the files that were read, added one after another
 abbrev pub with_sources : List SourceFile → Files → Files
 with_sources [] files = files
 with_sources (source ∷ sources) files = with_sources sources (put source.name source.bytes files)
@@ -54,7 +54,7 @@ abbrev pub file_page : Option (List ℕ) → Page
 file_page (Some text) = Text text
 file_page None = Missing
 
--- of a run that is done a file that it left, and of any other its report
+-- for a successful run a file that it wrote, and for any other its report
 abbrev pub page_left : (done : Bool) → Files → (report file : List ℕ) → Page
 page_left true files report file = file_page (files file)
 page_left false files report file = Refused report
@@ -73,16 +73,16 @@ is_done_by other = false
 abbrev pub page_of_course : Course → Files → (file : List ℕ) → Page
 page_of_course course files file = page_left (is_done course.end.verdict) (put_all (files_of course) files) (report_of course) file
 
--- where the files are told, the course is
+-- where the files are known, so is the course
 abbrev pub page_of_known : Option Course → Files → (file : List ℕ) → Page
 page_of_known (Some course) files file = page_of_course course files file
 page_of_known None files file = Missing
 
--- the page of the run of some words over the files that were read, and no input
+-- the page of the run of a command line over the files that were read, without input
 unfoldable pub page_of_run : (words : List (List ℕ)) → List SourceFile → (file : List ℕ) → Page
 page_of_run words sources file = page_of_known (course_of words (Some (files_read sources)) (Some [])) (files_read sources) file
 
--- of a manifest as it was read
+-- for a manifest that was read
 abbrev pub page_of_manifest : (indexed : Bool) → (now : Option (List ℕ)) → Manifest → (file : List ℕ) → Page
 page_of_manifest indexed now manifest file =
     page_of_run (words_by (verb_of indexed manifest.name) manifest.base now manifest.name) manifest.files file

@@ -1,10 +1,14 @@
--- What is read for a manifest: its own bytes, and those of each file that it needs and that is there.
-use Rattle.std.specs.Prelude.{ℕ, min, List, [], ◌∷◌, ◌++◌, Option, Some, None, Result, Ok, Err}
+-- What is read for a manifest: its own bytes, and those of each file that it needs and that is there, up to a limit for all of these.
+use Rattle.std.specs.Prelude.{ℕ, ◌-◌, min, nat_lt, List, [], ◌∷◌, ◌++◌, length, if◌then◌else◌, Option, Some, None, Result, Ok, Err}
 use Rattle.box_reader.specs.{Parts.part_of, declared.part.PartFault.PartFault}
 use Rattle.bridge_io.specs.{Answer.{and_then, told_as}, Outside.Files, Slurped.{Unread, Long, Missing, whole_file}}
 use Rattle.bridge_report.specs.Reading.{manifest_limit}
 use Rattle.page_server.specs.declared.maker.SourceFile.{SourceFile}
-use Rattle.bridge_pages.specs.{declared.needs.Needs.Needs, declared.verb.Verb.Verb, Needs.needs_of}
+use Rattle.bridge_pages.specs.{declared.needs.Needs.Needs, declared.sources.Reading.Reading, declared.verb.Verb.Verb, Needs.needs_of}
+
+-- how many bytes of other files are read for a manifest at most
+abbrev pub total_limit : ℕ
+total_limit = 67108864
 
 abbrev pub missing : PartFault → Unread
 missing _ = Missing
@@ -13,30 +17,41 @@ missing _ = Missing
 abbrev pub front_of : (most : ℕ) → Option (List ℕ) → Result (List ℕ) Unread
 front_of most file = told_as missing (part_of 0 (min most manifest_limit) file)
 
--- the same, or all
-abbrev pub bytes_of : (most : Option ℕ) → (name : List ℕ) → Files → Result (List ℕ) Unread
-bytes_of (Some most) name files = front_of most (files name)
-bytes_of None name files = whole_file manifest_limit name files
+-- The same, or all. A file that doesn't fit in the room that is left is too long.
+abbrev pub bytes_of : (most : Option ℕ) → (room : ℕ) → (name : List ℕ) → Files → Result (List ℕ) Unread
+bytes_of (Some most) room name files =
+    if nat_lt room (min most manifest_limit) then whole_file room name files else front_of most (files name)
+bytes_of None room name files = whole_file (min manifest_limit room) name files
+
+abbrev pub with_source : (name bytes : List ℕ) → Reading → Reading
+with_source name bytes reading = record {
+  sources = reading.sources ++ record { name = name; bytes = bytes } ∷ [];
+  room = reading.room - length bytes;
+}
 
 -- one more file, where there is one
-abbrev pub with_file : (name : List ℕ) → Result (List ℕ) Unread → List SourceFile → Result (List SourceFile) Unread
-with_file name (Ok bytes) sources = Ok (sources ++ record { name = name; bytes = bytes } ∷ [])
-with_file name (Err Missing) sources = Ok sources
-with_file name (Err (Long place)) sources = Err (Long place)
+abbrev pub with_file : (name : List ℕ) → Result (List ℕ) Unread → Reading → Result Reading Unread
+with_file name (Ok bytes) reading = Ok (with_source name bytes reading)
+with_file name (Err Missing) reading = Ok reading
+with_file name (Err (Long place)) reading = Err (Long place)
 
--- those of some names behind those that were read
-abbrev pub files_behind : (most : Option ℕ) → List SourceFile → Files → (names : List (List ℕ)) → Result (List SourceFile) Unread
-files_behind most sources files [] = Ok sources
-files_behind most sources files (name ∷ names) =
-    and_then (with_file name (bytes_of most name files) sources) (λ more. files_behind most more files names)
+-- those of some names, one after another
+abbrev pub files_behind : (most : Option ℕ) → Reading → Files → (names : List (List ℕ)) → Result Reading Unread
+files_behind most reading files [] = Ok reading
+files_behind most reading files (name ∷ names) =
+    and_then (with_file name (bytes_of most reading.room name files) reading) (λ more. files_behind most more files names)
 
-abbrev pub needed_behind : List SourceFile → Files → Needs → Result (List SourceFile) Unread
-needed_behind sources files needs = files_behind needs.most sources files needs.names
+-- with the manifest itself, which isn't counted
+abbrev pub begun : (manifest bytes : List ℕ) → Reading
+begun manifest bytes = record { sources = record { name = manifest; bytes = bytes } ∷ []; room = total_limit }
 
-abbrev pub sources_behind : Verb → (base manifest bytes : List ℕ) → Files → Result (List SourceFile) Unread
-sources_behind verb base manifest bytes files =
-    needed_behind (record { name = manifest; bytes = bytes } ∷ []) files (needs_of verb base manifest bytes)
+abbrev pub sources_behind : Reading → Files → Needs → Result (List SourceFile) Unread
+sources_behind reading files needs = and_then (files_behind needs.most reading files needs.names) (λ all. Ok all.sources)
+
+abbrev pub sources_with : Verb → (base manifest bytes : List ℕ) → Files → Result (List SourceFile) Unread
+sources_with verb base manifest bytes files =
+    sources_behind (begun manifest bytes) files (needs_of verb base manifest bytes)
 
 unfoldable pub sources_of : Verb → (base manifest : List ℕ) → Files → Result (List SourceFile) Unread
 sources_of verb base manifest files =
-    and_then (whole_file manifest_limit manifest files) (λ bytes. sources_behind verb base manifest bytes files)
+    and_then (whole_file manifest_limit manifest files) (λ bytes. sources_with verb base manifest bytes files)

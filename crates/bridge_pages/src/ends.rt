@@ -1,4 +1,4 @@
-// What a run in memory meets: no input, a store and a sink that have no faults.
+// The environment of a run in memory: no input, a store and a sink without I/O errors.
 ghost use Rattle.std.specs.Prelude.{◌≡◌, ◌≤◌, ◌<◌, ◌++◌, [], ◌∷◌, length, is_some, None, Some, IfOk, OnOk, OnErr};
 ghost use Rattle.std.specs.Option.{option_copied};
 ghost use Rattle.bridge_ends.specs.InMemory.{files_in, written_to};
@@ -10,7 +10,7 @@ use bridge_ends::{CallList, MemSink, MemStore};
 use bridge_io::{Bytes, Fail, Name, NoMemory, Sink, Source, Store};
 use std::alloc::Global;
 
-/// An input without bytes.
+/// An empty input.
 #[derive(Drop)]
 pub struct NoInput;
 
@@ -24,14 +24,14 @@ impl Source for NoInput {
     }
 }
 
-/// Files in memory. A call that fails is one that finds no memory.
+/// Files in memory. A call fails only where memory runs out.
 #[derive(Drop)]
 pub struct PageStore {
     files: MemStore,
 }
 
 impl PageStore {
-    /// A store without files. It takes no memory.
+    /// A store without files. It allocates nothing.
     pub fn new(alloc: Global) -> PageStore
         ensures { files_at result ≡ no_files }
     {
@@ -48,7 +48,7 @@ impl PageStore {
         self.files.put(name, bytes)
     }
 
-    /// The bytes of a file. There are none exactly where there is no file of this name.
+    /// The bytes of a file; `None` exactly where there is no file of this name.
     pub fn file(&self, name: &Name) -> Option<&[u8]>
         ensures { option_copied result ≡ files_at self.now name.now }
     {
@@ -92,14 +92,14 @@ impl Store for PageStore {
     }
 }
 
-/// A report in memory. A call that fails is one that finds no memory.
+/// A report in memory. A call fails only where memory runs out.
 #[derive(Drop)]
 pub struct Report {
     text: MemSink,
 }
 
 impl Report {
-    /// A report without text. It takes no memory.
+    /// An empty report. It allocates nothing.
     pub fn new(alloc: Global) -> Report
         ensures { report_at result ≡ [] }
     {
@@ -108,7 +108,7 @@ impl Report {
         }
     }
 
-    /// What was told so far.
+    /// What was reported so far.
     pub fn text(&self) -> &[u8]
         ensures { result.now ≡ report_at self.now }
     {

@@ -1,4 +1,5 @@
-//! The files that the bridge writes of a manifest, made in memory of what was read for it: the pages of a [`page_server`].
+//! The files that the bridge writes for a manifest, made in memory from what was read for it: the pages of a
+//! [`page_server`].
 #![tactic(auto)]
 
 mod ends;

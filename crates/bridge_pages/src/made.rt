@@ -13,7 +13,7 @@ use bridge_io::{Bytes, Ledger, Name, NoMemory, Steps, Text};
 use page_server::{Page, SourceFile};
 use std::alloc::Global;
 
-/// What a run left in memory.
+/// The result of a run in memory.
 #[derive(Drop)]
 pub struct Made {
     store: PageStore,
@@ -24,7 +24,8 @@ pub struct Made {
 impl Made {
     ghost use Rattle.bridge_pages.specs.Left.{page_at};
 
-    /// Runs the words over the files that were read, without input. The error is want of memory, in the run too.
+    /// Runs a command line over the files that were read, without input. The error means out of memory, also in the
+    /// run.
     #[tactic(auto, unfolding(crate::specs::Runs::page_of_run))]
     pub fn of<L: Ledger>(
         alloc: Global,
@@ -49,7 +50,7 @@ impl Made {
         }
     }
 
-    /// The page under a name: the file that the run left, or the report of a run that isn't done.
+    /// The page under a name: the file that the run wrote, or the report of a run that didn't succeed.
     pub fn page(&self, file: &Name) -> Page<'_>
         ensures { shown result ≡ page_at self.now file.now }
     {
@@ -63,7 +64,7 @@ impl Made {
     }
 }
 
-/// Whether a run that ends so did what it was to do.
+/// Whether a run with this status succeeded.
 fn is_done(status: Status) -> bool
     ensures { result ≡ spec.is_done_by status }
 {

@@ -1,21 +1,21 @@
 // The media files whose indexes an MPD's playlists depend on.
-ghost use Rattle.std.specs.Prelude.{◌≡◌, IfOk};
-ghost use Rattle.bridge_io.specs.Answer.{Gives};
-ghost use Rattle.bridge_reach.specs.Index as index;
-ghost use Rattle.bridge_report.specs.Refusals.{refused_in};
+ghost use Rattle.std.specs.Prelude.{◌≡◌, nat_lt, length, IfOk};
 ghost use Rattle.index_parts.specs.Rows.{row_of, rows_left, told_in};
-ghost use Rattle.mpd_rules.specs.Views.{bases_left, index_mpd};
-ghost use Rattle.url_parts.specs.Addresses.{chain, refusal as url_refusal};
+ghost use Rattle.mpd_rules.specs.Views.{index_mpd};
 ghost use Rattle.bridge_pages.specs.Needs as spec;
 
 use crate::needs::{Names, Needs, add_name};
 use bridge_io::{Bytes, Name, NoMemory};
 use bridge_playlists::StorePlace;
+use bridge_reach::values_of;
 use bridge_report::Stop;
-use bridge_steps::tree_of;
-use mpd_rules::{BaseWalk, IndexedMpd, IndexedRep, IndexedWalk, rules_indexed};
+use index_parts::{address_of, deepest};
+use mpd_rules::{IndexedMpd, IndexedRep, IndexedWalk};
 use std::alloc::Global;
-use url_parts::{Address, Base, UrlFault, local_name};
+use url_parts::{UrlFault, local_name};
+
+/// How many Representations an MPD has at most whose playlists are made.
+const TRACK_LIMIT: u64 = 200;
 
 /// Media files, and where the last of their indexes ends.
 #[derive(Drop)]
@@ -38,29 +38,33 @@ pub fn media_in(alloc: Global, place: &StorePlace, bytes: &[u8]) -> Result<Needs
     }
 }
 
-#[tactic(auto, unfolding(bridge_reach::specs::Index::values_of))]
-fn values_of(alloc: Global, bytes: Bytes) -> Result<IndexedMpd, Stop>
-    ensures { Gives index_mpd refused_in result (index.values_of bytes) }
-{
-    let tree = tree_of(alloc, bytes)?;
-    match rules_indexed(alloc, &tree) {
-        Ok(mpd) => Ok(mpd),
-        Err(fault) => Err(Stop::of_rules(fault)),
-    }
-}
-
-/// The media files of an MPD's only Period.
+/// The media files of an MPD's only Period. There are none where its Representations are too many.
 fn media_of(alloc: Global, place: &StorePlace, mpd: &IndexedMpd) -> Result<Needs, NoMemory>
     ensures { IfOk result (λ needs. needs ≡ spec.media_of place.now (index_mpd mpd.now).periods) }
 {
     let Some(period) = mpd.periods().next() else {
         return Ok(Needs::none(alloc));
     };
+    if are_many(period.tracks()) {
+        return Ok(Needs::none(alloc));
+    }
     let fronts = fronts_of(alloc, place, period.tracks())?;
     Ok(Needs {
         names: fronts.names,
         most: Some(fronts.end),
     })
+}
+
+/// Whether Representations are more than may be.
+fn are_many(mut rows: IndexedWalk<'_>) -> bool
+    ensures { result ≡ nat_lt 200 (length (rows_left rows.entry)) }
+{
+    for _passed in 0..TRACK_LIMIT {
+        if rows.next().is_none() {
+            return false;
+        }
+    }
+    rows.next().is_some()
 }
 
 fn fronts_of(alloc: Global, place: &StorePlace, walk: IndexedWalk<'_>) -> Result<Fronts, NoMemory>
@@ -113,23 +117,4 @@ fn file_of(
         Err(UrlFault::Memory) => Err(NoMemory),
         Err(_) => Ok(None),
     }
-}
-
-/// The base that references give one after another.
-fn deepest(alloc: Global, url: &Base, references: BaseWalk<'_>) -> Result<Base, UrlFault>
-    ensures { Gives (λ base. base) url_refusal result (chain url.now (bases_left references.entry)) }
-{
-    let mut base = url.copy(alloc)?;
-    for reference in references {
-        base = base.deeper(alloc, reference)?;
-    }
-    Ok(base)
-}
-
-/// The address that a base is, which is refused for want of memory alone.
-#[tactic(auto, using(mpd_presentation::proofs::OwnAddress::own_address))]
-fn address_of(alloc: Global, base: &Base) -> Result<Address, NoMemory>
-    ensures { IfOk result (λ address. address ≡ base.now) }
-{
-    base.join(alloc, base.as_str()).map_err(|_| NoMemory)
 }

@@ -11,9 +11,8 @@ use bridge_io::{Ledger, NoMemory, Steps, Text};
 use page_server::Manifest;
 use std::alloc::Global;
 
-/// The pages of a manifest: [`Made::page`] has the text of each file that the bridge writes of it, below the manifest's name,
-/// or the line that refuses it. An MPD's media files have an index inside where that is asked for, and a live MPD is taken at the
-/// instant.
+/// The pages of a manifest: [`Made::page`] has the text of each file that the bridge writes for it, below the manifest's name, or
+/// the line that rejects it. With `indexed` an MPD's media files have a `sidx`, and a live MPD is read at the time `now`.
 pub fn pages<L: Ledger>(
     alloc: Global,
     manifest: &Manifest,

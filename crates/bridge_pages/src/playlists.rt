@@ -9,7 +9,7 @@ use bridge_io::{Ledger, Name, NoMemory, Slurp, Steps, Store, Text};
 use page_server::{Maker, Manifest, Page, Sources};
 use std::alloc::Global;
 
-/// Makes the playlists of an MPD, and the MPD of a master and its playlists.
+/// Makes the playlists of an MPD, and the MPD of a master playlist and its media playlists.
 #[derive(Drop)]
 pub struct Playlists<L: Ledger> {
     alloc: Global,
@@ -20,8 +20,8 @@ pub struct Playlists<L: Ledger> {
 }
 
 impl<L: Ledger> Playlists<L> {
-    /// A maker of pages of MPDs whose media files have an index inside, or of others, which takes live ones at an instant. It takes
-    /// no memory.
+    /// A maker of pages of MPDs whose media files have a `sidx`, or of others, which reads live ones at a time. It allocates
+    /// nothing.
     pub fn new(alloc: Global, indexed: bool, now: Option<Text>, steps: Steps<L>) -> Playlists<L>
         ensures { ⟦<Playlists<L> as Maker>⟧.making result ≡ making_of indexed now }
     {

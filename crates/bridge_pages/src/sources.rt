@@ -1,5 +1,5 @@
 // What is read for a manifest.
-ghost use Rattle.std.specs.Prelude.{◌≡◌};
+ghost use Rattle.std.specs.Prelude.{◌≡◌, IfOk, OnOk};
 ghost use Rattle.std.specs.Option.{ForSome};
 ghost use Rattle.bridge_io.specs.Answer.{Gives};
 ghost use Rattle.bridge_io.specs.Fault.{HasCause};
@@ -11,14 +11,25 @@ use crate::made::name_like;
 use crate::needs::Needs;
 use crate::verb::Verb;
 use box_reader::{PartFault, read_part};
-use bridge_io::{Bytes, Name, Sequence, Slurp, Store, slurp};
+use bridge_io::{Bytes, Name, NoMemory, Sequence, Slurp, Store, slurp};
 use page_server::{SourceFile, Sources};
 use std::alloc::Global;
 
 /// How many bytes of a file are read at most: more than that no manifest has.
 const LIMIT: u64 = 8_388_608;
 
-/// Reads a manifest, and each file that it needs and that is there.
+/// How many bytes of other files are read for a manifest at most.
+const TOTAL_LIMIT: u64 = 67_108_864;
+
+/// What was read for a manifest, and how many bytes of other files may still be.
+#[derive(Drop)]
+struct Reading {
+    sources: Sources,
+    room: u64,
+}
+
+/// Reads a manifest, and each file that it needs and that is there. TooLong comes where a file has more bytes than a manifest may
+/// have, or than are left of what is read for a manifest.
 #[tactic(auto, unfolding(crate::specs::Sources::sources_of))]
 pub fn sources_of<F: Store>(
     alloc: Global,
@@ -34,78 +45,88 @@ pub fn sources_of<F: Store>(
 {
     let bytes = slurp(alloc, store, manifest, LIMIT)?;
     let needs = Needs::of(alloc, verb, base, manifest, bytes.as_slice())?;
-    let mut sources = Sequence::new(alloc);
-    sources.push(SourceFile {
-        name: name_like(alloc, manifest)?,
-        bytes,
-    })?;
-    add_files(
-        alloc,
-        store,
-        needs.names.as_slice(),
-        needs.most,
-        &mut sources,
-    )?;
-    Ok(sources)
+    let mut reading = Reading::begin(alloc, name_like(alloc, manifest)?, bytes)?;
+    reading.add_files(alloc, store, needs.names.as_slice(), needs.most)?;
+    Ok(reading.sources)
 }
 
-/// Reads some more files, of which those that aren't there are left out.
-fn add_files<F: Store>(
-    alloc: Global,
-    store: &mut F,
-    names: &[Name],
-    most: Option<u64>,
-    sources: &mut Sources,
-) -> Result<(), Slurp>
-    ensures read { ForSome (F.files store.old) (λ files. Gives (λ _. sources.new) unread result
-        (spec.files_behind most sources.old files names.now)) }
-    ensures cause { HasCause Fault (F.read_faults store.old) (F.read_faults store.new) result }
-    ensures files { F.files store.new ≡ F.files store.old }
-{
-    for name in names {
-        add_file(alloc, store, name, most, sources)?;
+impl Reading {
+    /// A manifest, which isn't counted.
+    fn begin(alloc: Global, name: Name, bytes: Bytes) -> Result<Reading, NoMemory>
+        ensures { IfOk result (λ reading. reading ≡ spec.begun name bytes) }
+    {
+        let mut sources = Sequence::new(alloc);
+        sources.push(SourceFile { name, bytes })?;
+        Ok(Reading {
+            sources,
+            room: TOTAL_LIMIT,
+        })
     }
-    Ok(())
-}
 
-/// Reads one more file, where there is one.
-fn add_file<F: Store>(
-    alloc: Global,
-    store: &mut F,
-    name: &Name,
-    most: Option<u64>,
-    sources: &mut Sources,
-) -> Result<(), Slurp>
-    ensures read { ForSome (F.files store.old) (λ files. Gives (λ _. sources.new) unread result
-        (spec.with_file name.now (spec.bytes_of most name.now files) sources.old)) }
-    ensures cause { HasCause Fault (F.read_faults store.old) (F.read_faults store.new) result }
-    ensures files { F.files store.new ≡ F.files store.old }
-{
-    match bytes_of(alloc, store, name, most) {
-        Ok(bytes) => {
-            let name = name_like(alloc, name)?;
-            sources.push(SourceFile { name, bytes })?;
-            Ok(())
+    /// Reads some more files, of which those that aren't there are left out.
+    fn add_files<F: Store>(
+        &mut self,
+        alloc: Global,
+        store: &mut F,
+        names: &[Name],
+        most: Option<u64>,
+    ) -> Result<(), Slurp>
+        ensures read { ForSome (F.files store.old) (λ files. Gives (λ _. self.new) unread result
+            (spec.files_behind most self.old files names.now)) }
+        ensures cause { HasCause Fault (F.read_faults store.old) (F.read_faults store.new) result }
+        ensures files { F.files store.new ≡ F.files store.old }
+    {
+        for name in names {
+            self.add_file(alloc, store, name, most)?;
         }
-        Err(Slurp::Absent) => Ok(()),
-        Err(fault) => Err(fault),
+        Ok(())
+    }
+
+    /// Reads one more file, where there is one.
+    fn add_file<F: Store>(
+        &mut self,
+        alloc: Global,
+        store: &mut F,
+        name: &Name,
+        most: Option<u64>,
+    ) -> Result<(), Slurp>
+        ensures read { ForSome (F.files store.old) (λ files. Gives (λ _. self.new) unread result
+            (spec.with_file name.now (spec.bytes_of most self.old.room name.now files) self.old)) }
+        ensures cause { HasCause Fault (F.read_faults store.old) (F.read_faults store.new) result }
+        ensures files { F.files store.new ≡ F.files store.old }
+    {
+        match bytes_of(alloc, store, name, most, self.room) {
+            Ok(bytes) => Ok(self.add(name_like(alloc, name)?, bytes)?),
+            Err(Slurp::Absent) => Ok(()),
+            Err(fault) => Err(fault),
+        }
+    }
+
+    /// Adds a file that was read.
+    fn add(&mut self, name: Name, bytes: Bytes) -> Result<(), NoMemory>
+        ensures { OnOk result (self.new ≡ spec.with_source name bytes self.old) }
+    {
+        self.room = self.room.saturating_sub(bytes.len() as u64);
+        self.sources.push(SourceFile { name, bytes })
     }
 }
 
-/// The bytes of a file, all or the first ones.
+/// The bytes of a file, all or the first ones, unless they have no room.
 fn bytes_of<F: Store>(
     alloc: Global,
     store: &mut F,
     name: &Name,
     most: Option<u64>,
+    room: u64,
 ) -> Result<Bytes, Slurp>
-    ensures read { ForSome (F.files store.old) (λ files. Gives (λ bytes. bytes) unread result (spec.bytes_of most name.now files)) }
+    ensures read { ForSome (F.files store.old) (λ files. Gives (λ bytes. bytes) unread result (spec.bytes_of most room name.now files)) }
     ensures cause { HasCause Fault (F.read_faults store.old) (F.read_faults store.new) result }
     ensures files { F.files store.new ≡ F.files store.old }
 {
     match most {
+        Some(most) if room < most.min(LIMIT) => slurp(alloc, store, name, room),
         Some(most) => front_of(alloc, store, name, most),
-        None => slurp(alloc, store, name, LIMIT),
+        None => slurp(alloc, store, name, LIMIT.min(room)),
     }
 }
 

@@ -7,14 +7,15 @@ ghost use Rattle.bridge_pages.specs.Runs as spec;
 pub enum Verb {
     /// Playlists of an MPD.
     Hls,
-    /// Playlists of an MPD whose media files have an index inside.
+    /// Playlists of an MPD whose media files have a `sidx`.
     HlsIndex,
-    /// The MPD of a master and its playlists.
+    /// The MPD of a master playlist and its media playlists.
     Dash,
 }
 
 impl Verb {
-    /// What is done with a manifest: by the end of its name it is a master or an MPD, and of MPDs one kind is asked for.
+    /// The command for a manifest: the end of its name says whether it is a master playlist or an MPD, and `indexed`
+    /// which kind of MPD.
     pub fn of(indexed: bool, manifest: &str) -> Verb
         ensures { result ≡ spec.verb_of indexed manifest.now }
     {

@@ -1,4 +1,4 @@
-// The words of a run.
+// The command line of a run.
 ghost use Rattle.std.specs.Prelude.{◌≡◌, IfOk, OnOk};
 ghost use Rattle.std.specs.Option.{option_copied};
 ghost use Rattle.bridge_pages.specs.Runs as spec;
@@ -7,7 +7,8 @@ use crate::verb::Verb;
 use bridge_io::{NoMemory, Sequence, Text};
 use std::alloc::Global;
 
-/// The words of the run that writes the files of a manifest to a folder of its own name. An instant is of `hls` alone.
+/// The command line of the run that writes the files of a manifest to a folder of its own name. Only `hls` takes a
+/// time.
 pub fn words_of(
     alloc: Global,
     verb: Verb,
@@ -26,7 +27,7 @@ pub fn words_of(
     Ok(words)
 }
 
-/// Adds the word of an instant, where one is given and the command takes it.
+/// Adds the `--now` word, where a time is given and the command takes it.
 fn push_now(
     alloc: Global,
     verb: Verb,

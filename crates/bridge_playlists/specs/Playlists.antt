@@ -1,4 +1,4 @@
--- A master with the media playlists that it mentions, and what they give as a presentation.
+-- A master playlist with the media playlists that it mentions, and their presentation.
 use Rattle.bridge_report.specs.declared.refusal.Refusal.TheVariants as refusal
 use Rattle.std.specs.Prelude.{◌≡◌, ◌≤◌, ℕ, ◌+◌, nat_lt, List, [], ◌∷◌, ◌++◌, length, map, sum_by, All, if◌then◌else◌, Option, Some, None}
 use Rattle.std.specs.Prelude.{option_map, Result, Ok, Err}
@@ -12,9 +12,9 @@ use Rattle.presentation.specs.{Presented.Presented, Ratios.rate_of}
 use Rattle.bridge_report.specs.Reading.{Named, content_of, media_at, of_file}
 use Rattle.bridge_playlists.specs.{declared.medias.Medias.Medias, declared.place.StorePlace.StorePlace}
 
--- ---- the master
+-- ---- the master playlist
 
--- a track as it is kept
+-- a track as it is stored
 abbrev pub track_kept : TrackValue → MasterTrack
 track_kept t = record {
   kind = t.kind;
@@ -27,14 +27,14 @@ track_kept t = record {
   frame_rate = option_map rate_of t.frame_rate;
 }
 
--- the tracks of a master, or its first fault
+-- the tracks of a master playlist, or its first fault
 abbrev pub tracks_of : (bytes url : List ℕ) → Result (List MasterTrack) MasterFault
 tracks_of bytes url = and_then (master_of bytes url) (λ tracks. Ok (map track_kept tracks))
 
 unfoldable pub master_in : StorePlace → (bytes : List ℕ) → Result (List MasterTrack) Named
 master_in place bytes = of_file place.file (told_as refusal.Master (tracks_of bytes place.url))
 
--- the master at a place
+-- the master playlist at a location
 unfoldable pub master_at : StorePlace → Files → Result (List MasterTrack) Named
 master_at place files = and_then (content_of place.file files) (master_in place)
 
@@ -54,12 +54,12 @@ segment_limit = 500000
 abbrev pub within_limit : StorePlace → Medias → Result Medias Named
 within_limit place medias = if nat_lt segment_limit medias.segments then Err (place.file, refusal.TooManySegments) else Ok medias
 
--- an address that names no file under the folder
+-- the playlist of a file name, where the URL gives one under the folder
 abbrev pub media_named : StorePlace → Files → (address : List ℕ) → Option (List ℕ) → Result Media Named
 media_named place files address None = Err (place.file, refusal.OutsideBase)
 media_named place files address (Some file) = media_at file address files
 
--- the playlist of an address, which is a file under the folder
+-- the playlist at a URL, which is a file under the folder
 unfoldable pub media_under : StorePlace → Files → (address : List ℕ) → Result Media Named
 media_under place files address = media_named place files address (local_name_of place.folder address)
 
@@ -78,15 +78,15 @@ medias_of place files medias (track ∷ tracks) = and_then (medias_with place fi
 unfoldable pub presented_by : StorePlace → List MasterTrack → List Media → Result Presented Named
 presented_by place tracks medias = of_file place.file (told_as refusal.Hls (hls_presented_of tracks medias))
 
--- the presentation of a master's tracks, whose playlists lie in these files
+-- the presentation of a master playlist's tracks, with their playlists in these files
 unfoldable pub presented_with : StorePlace → Files → List MasterTrack → Result Presented Named
 presented_with place files tracks = and_then (medias_of place files none_read tracks) (λ medias. presented_by place tracks medias.files)
 
--- the presentation of the master that these bytes are
+-- the presentation of these bytes as a master playlist
 abbrev pub presented_in : StorePlace → Files → (bytes : List ℕ) → Result Presented Named
 presented_in place files bytes = and_then (master_in place bytes) (presented_with place files)
 
--- the presentation of the master at a place, or the first refusal
+-- the presentation of the master playlist at a location, or the first error
 unfoldable pub presented_at : StorePlace → Files → Result Presented Named
 presented_at place files = and_then (content_of place.file files) (presented_in place files)
 

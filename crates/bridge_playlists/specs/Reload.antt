@@ -1,4 +1,4 @@
--- Whether a media playlist may take the place of an older one.
+-- Whether a media playlist is a valid update of an older one.
 use Rattle.bridge_courses.specs.declared.status.Verdict.TheVariants as verdict
 use Rattle.reload_law.specs.declared.unlawful.Unlawful.TheVariants as rule
 use Rattle.std.specs.Prelude.{ℕ, ◌-◌, max, min, List, ◌++◌, codes, decimal, length, Option, Some, None, option_map, Result, Ok, Err}
@@ -21,11 +21,11 @@ unfoldable pub counts_line : (kept added removed : ℕ) → List ℕ
 counts_line kept added removed = codes "lawful kept=" ++ decimal kept ++ codes " added=" ++ decimal added ++ codes " removed="
     ++ decimal removed ++ codes "\n"
 
--- the sequence numbers that both have, those of the new one alone, and those of the old one alone
+-- the sequence numbers that both have, those of only the new one, and those of only the old one
 abbrev pub lawful_line : Media → Media → List ℕ
 lawful_line old new = let kept = kept_count old new in counts_line kept (length new.segments - kept) (length old.segments - kept)
 
--- the rule's number and name, and the sequence number that it tells
+-- the rule's number and name, and its sequence number
 unfoldable pub unlawful_line : Unlawful → List ℕ
 unlawful_line rule.Target = codes "unlawful 1 Target\n"
 unlawful_line rule.Sequence = codes "unlawful 2 Sequence\n"
@@ -44,7 +44,7 @@ told_by old new (Err rule) = (verdict.Differ, unlawful_line rule)
 abbrev pub judgement : Media → Media → Verdict × List ℕ
 judgement old new = told_by old new (lawful old new)
 
--- the old playlist is read whole before the new one
+-- the old playlist is read completely before the new one
 unfoldable pub judged : ReloadJob → Urls → Files → Result (Verdict × List ℕ) Named
 judged job urls files =
     and_then (media_at job.old urls.old files) (λ old.

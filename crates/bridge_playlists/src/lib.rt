@@ -1,5 +1,5 @@
-//! Playlists in the files of a store: a master with its media playlists as a presentation, and one media playlist in the place
-//! of another.
+//! Playlists in the files of a store: a master playlist with its media playlists as a presentation, and one media playlist as
+//! an update of another.
 #![tactic(auto)]
 
 mod medias;

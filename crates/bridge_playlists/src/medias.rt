@@ -1,4 +1,4 @@
-// The media playlists of a master's tracks.
+// The media playlists of a master playlist's tracks.
 ghost use Rattle.std.specs.Prelude.{◌≡◌, IfOk};
 ghost use Rattle.bridge_io.specs.Answer.{Gives};
 ghost use Rattle.hls_media.specs.Laws.{IsBounded};
@@ -14,7 +14,7 @@ use hls_presentation::MediaFiles;
 use std::alloc::Global;
 use url_parts::{Address, Base, UrlFault, local_name};
 
-/// How many segments all playlists may have together.
+/// The most segments of all playlists together.
 const SEGMENT_LIMIT: u64 = 500_000;
 
 /// Media playlists that are read one after another.
@@ -85,7 +85,7 @@ fn added(alloc: Global, place: &StorePlace, medias: Medias, media: Media) -> Res
     Ok(Medias { files, segments })
 }
 
-/// Reads the playlist of an address, which is a file under the folder.
+/// Reads the playlist at a URL, which is a file under the folder.
 #[tactic(auto, unfolding(crate::specs::Playlists::media_under))]
 fn media_under<F: Store>(
     alloc: Global,
@@ -102,7 +102,7 @@ fn media_under<F: Store>(
     }
 }
 
-/// An address as a base of references (URL Standard, 4.4).
+/// A URL as a base of references (URL Standard, 4.4).
 pub fn base_at(alloc: Global, address: &Address) -> Result<Base, NoMemory>
     ensures { IfOk result (λ base. base ≡ address.now) }
 {

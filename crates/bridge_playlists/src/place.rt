@@ -1,4 +1,4 @@
-// Where a master lies.
+// The location of a manifest.
 ghost use Rattle.std.specs.Prelude.{◌≡◌, IfOk, option_map};
 ghost use Rattle.bridge_playlists.specs.Places as spec;
 
@@ -7,19 +7,19 @@ use bridge_report::{file_url, folder_url};
 use std::alloc::Global;
 use url_parts::Base;
 
-/// Where a master lies.
+/// The location of a manifest.
 #[derive(Drop)]
 pub struct StorePlace {
     /// Its file.
     pub file: Name,
-    /// The URL of the folder that the store's root stands for.
+    /// The URL of the store's root.
     pub folder: Base,
     /// The URL of the file.
     pub url: Base,
 }
 
-/// Where the master of a file lies. There is none where the base isn't the address of a folder as the URL Standard writes it
-/// (4.5), or gives with the file's name no address.
+/// The location of a file. `None` where the base isn't a folder's URL as the URL Standard serializes it (4.5), or gives no
+/// valid URL with the file's name.
 #[tactic(auto, unfolding(crate::specs::Places::store_place_of))]
 pub fn store_place_of(
     alloc: Global,

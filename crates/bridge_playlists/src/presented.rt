@@ -1,4 +1,4 @@
-// The presentation of a master's playlists.
+// The presentation of a master playlist with its media playlists.
 ghost use Rattle.std.specs.Prelude.{◌≡◌, All, IfOk, Ok};
 ghost use Rattle.bridge_io.specs.Answer.{Gives};
 ghost use Rattle.hls_presentation.specs.Origins.{IsSilentTrack};
@@ -16,9 +16,9 @@ use hls_presentation::{HlsFault, from_hls, playlists_are_counted, what_is_read_i
 use presentation::Presentation;
 use std::alloc::Global;
 
-/// The presentation of the master at a place, whose playlists lie in files of the store, or why one of the files isn't read.
-/// Everything is read before anything is told of the whole. [`Halt::ReadFault`] comes only where the store's count of failed
-/// reads rose.
+/// The presentation of the master playlist at a location, whose media playlists are files of the store, or why one of the
+/// files isn't read. All files are read before the whole is checked. [`Halt::ReadFault`] comes only where the store's count
+/// of failed reads rose.
 #[tactic(auto, unfolding(crate::specs::Playlists::presented_at))]
 pub fn presented_at<F: Store>(
     alloc: Global,
@@ -33,7 +33,7 @@ pub fn presented_at<F: Store>(
     presented_in(alloc, place, bytes.as_slice(), store)
 }
 
-/// The presentation of the master that these bytes are, which lies at a place, or why one of the files isn't read.
+/// The presentation of these bytes as the master playlist at a location, or why one of the files isn't read.
 pub fn presented_in<F: Store>(
     alloc: Global,
     place: &StorePlace,
@@ -49,8 +49,8 @@ pub fn presented_in<F: Store>(
     presented_with(alloc, place, &master, store)
 }
 
-/// The master at a place, or why its file isn't read. [`Halt::ReadFault`] comes only where the store's count of failed reads
-/// rose.
+/// The master playlist at a location, or why its file isn't read. [`Halt::ReadFault`] comes only where the store's count of
+/// failed reads rose.
 #[tactic(auto, unfolding(crate::specs::Playlists::master_at))]
 pub fn master_at<F: Store>(alloc: Global, place: &StorePlace, store: &mut F) -> Result<Master, Halt>
     ensures { ReadsAs F.Store store.old store.new (λ master. master) (spec.master_at place.now) result }
@@ -59,7 +59,7 @@ pub fn master_at<F: Store>(alloc: Global, place: &StorePlace, store: &mut F) -> 
     master_in(alloc, place, bytes.as_slice())
 }
 
-/// The master that bytes are.
+/// Bytes as a master playlist.
 #[tactic(auto, unfolding(crate::specs::Playlists::master_in))]
 fn master_in(alloc: Global, place: &StorePlace, bytes: &[u8]) -> Result<Master, Halt>
     ensures master { Gives (λ master. master) halted result (spec.master_in place.now bytes.now) }
@@ -74,7 +74,7 @@ fn master_in(alloc: Global, place: &StorePlace, bytes: &[u8]) -> Result<Master, 
     }
 }
 
-/// The presentation of a master, whose playlists are read now.
+/// Reads the media playlists of a master playlist, and returns the presentation.
 #[tactic(auto, unfolding(crate::specs::Playlists::presented_with))]
 fn presented_with<F: Store>(
     alloc: Global,
@@ -92,7 +92,7 @@ fn presented_with<F: Store>(
     presented_by(alloc, place, master, &medias)
 }
 
-/// The presentation of a master with its playlists.
+/// The presentation of a master playlist with its media playlists.
 #[tactic(auto, unfolding(crate::specs::Playlists::presented_by))]
 fn presented_by(
     alloc: Global,

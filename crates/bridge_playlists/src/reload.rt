@@ -1,4 +1,4 @@
-// Whether a media playlist may take the place of an older one.
+// Whether a media playlist is a valid update of an older one.
 ghost use Rattle.std.specs.Prelude.{◌≡◌, ◌≢◌, ◌≤◌, IfOk};
 ghost use Rattle.std.specs.Option.{ForSome};
 ghost use Rattle.bridge_io.specs.Fault.{Rose};
@@ -26,8 +26,8 @@ struct Urls {
     new: Base,
 }
 
-/// Tells whether the new playlist lawfully takes the old one's place, or the first rule that it breaks, unless one of them is
-/// refused. Nothing is written.
+/// Reports whether the new playlist is a valid update of the old one, or the first rule that it breaks, unless one of them is
+/// rejected. Nothing is written.
 #[tactic(auto, unfolding(crate::specs::Reload::reload_outcome))]
 pub fn run_reload<F: Store>(alloc: Global, job: &ReloadJob, store: &mut F) -> Ending
     ensures ending { ForSome (spec.reload_outcome job.now (F.files store.old))
@@ -58,7 +58,7 @@ fn urls_of(alloc: Global, job: &ReloadJob) -> Result<Option<Urls>, NoMemory>
     Ok(Some(Urls { old, new }))
 }
 
-/// Tells of the playlists at these URLs.
+/// The same for the playlists at these URLs.
 fn reload_at<F: Store>(alloc: Global, job: &ReloadJob, urls: &Urls, store: &mut F) -> Ending
     ensures ending { ForSome (F.files store.old) (λ files. IsEnding (spec.outcome_at job.now urls.now files) result (F.files store.old)
         (F.files store.new)) }
@@ -74,7 +74,8 @@ fn reload_at<F: Store>(alloc: Global, job: &ReloadJob, urls: &Urls, store: &mut 
     }
 }
 
-/// The verdict on the playlists at these URLs, with its line, or why one of them isn't read: the old one is read whole first.
+/// The verdict on the playlists at these URLs, with its line, or why one of them isn't read. The old one is read completely
+/// first.
 #[tactic(auto, unfolding(crate::specs::Reload::judged))]
 fn judged<F: Store>(
     alloc: Global,
@@ -90,7 +91,7 @@ fn judged<F: Store>(
     judgement(alloc, &old, &new).map_err(|_| Halt::Memory)
 }
 
-/// The verdict on a playlist that takes an older one's place, with its line.
+/// The verdict on a playlist as an update of an older one, with its line.
 fn judgement(alloc: Global, old: &Media, new: &Media) -> Result<(Verdict, Text), NoMemory>
     requires old { IsBounded old.now }
     requires new { IsBounded new.now }
@@ -128,7 +129,7 @@ fn kept_count(old: &Media, new: &Media) -> u64
         .saturating_sub(old.sequence.max(new.sequence))
 }
 
-/// The number behind the last segment's.
+/// The sequence number after the last segment's.
 fn end_of(media: &Media) -> u64
     requires { IsBounded media.now }
     ensures { result ≡ end_of media.now }

@@ -1,4 +1,4 @@
--- Whether the times of an MPD are those that its media files state.
+-- Whether the times of an MPD are the decode times of its media files.
 use Rattle.bridge_courses.specs.declared.status.Verdict.TheVariants as verdict
 use Rattle.bridge_report.specs.declared.refusal.Refusal.TheVariants as refusal
 use Rattle.std.specs.Prelude.{ℕ, ◌^◌, List, ◌++◌, length, codes, decimal, Option, Some, None, option_map, Result, Ok}
@@ -26,14 +26,14 @@ agree_text tracks sections segments =
 abbrev pub agree_line : Presented → List ℕ
 agree_line p = agree_text (length p.tracks) (length p.sections) (count_of_all p)
 
--- what is told of an MPD's presentation whose first segment with another time is this one
+-- the report on an MPD's presentation, given its first segment with a different time
 abbrev pub verdict_of : Presented → Option SegmentSpot → Verdict × List ℕ
 verdict_of p None = (verdict.Done, agree_line p)
 verdict_of p (Some spot) = (verdict.Differ, apart_text spot.section spot.track spot.segment)
 
 -- ---- how the command ends
 
--- the MPD first, of which a live one is refused behind its rules; the decimals of printed durations tell nothing here
+-- the MPD first; a live one is rejected after its rules; the decimals of printed durations don't matter here
 abbrev pub mpd_read : StorePlace → Files → Result Presented Named
 mpd_read place files = mpd_at (Some refusal.NotStatic) (10 ^ 6) None place files
 

@@ -1,4 +1,4 @@
--- From playlists to an MPD with the times that the media files state (ISO/IEC 23009-1, 5.3.9).
+-- From playlists to an MPD with the decode times of the media files (ISO/IEC 23009-1, 5.3.9).
 use Rattle.std.specs.Prelude.{ℕ, List, [], ◌∷◌, codes, get_or, Option, option_map, Result, Ok}
 use Rattle.bridge_io.specs.{Answer.and_then, Outside.Files}
 use Rattle.bridge_jobs.specs.Laws.{in_folder}
@@ -13,7 +13,7 @@ use Rattle.bridge_reach.specs.{FileTimes.{durations_at, times_at}}
 
 -- ---- media times
 
--- the first segment begins where its file says; a track without segments begins at 0
+-- the first segment begins at its file's decode time; a track without segments begins at 0
 abbrev pub run_of : SegmentTimes → (ticks : List ℕ) → TickRun
 run_of times ticks = record { scale = times.scale; first = get_or times.starts 0 0; durations = ticks }
 
@@ -54,7 +54,7 @@ line_of timed = done_line timed.0
 abbrev pub outcome_of : MasterJob → Result Timed Named → Outcome
 outcome_of job read = outcome_written (files_of job) line_of read
 
--- the master is at this place
+-- the master playlist is at this location
 abbrev pub dash_times_at : MasterJob → Option Files → StorePlace → Option Outcome
 dash_times_at job files place = option_map (λ files. outcome_of job (timed_at place files)) files
 

@@ -1,4 +1,4 @@
--- The times that the media files of a presentation state, and which file is refused for them (ISO/IEC 14496-12, 8.4.2 and 8.8.12).
+-- The decode times of a presentation's media files, and which file is rejected for them (ISO/IEC 14496-12, 8.4.2 and 8.8.12).
 use Rattle.fragment_times.specs.declared.fault.TimesFault.TheVariants as fault
 use Rattle.bridge_report.specs.declared.refusal.Refusal.TheVariants as refusal
 use Rattle.bridge_report.specs.declared.times_refusal.TimesRefusal.TheVariants as times
@@ -15,7 +15,7 @@ use Rattle.bridge_report.specs.Reading.{Named}
 
 -- ---- the file of a segment
 
--- where a listed segment of a track in a section lies
+-- the URL and byte range of a listed segment of a track in a section
 abbrev pub listed_part : Presented → SegmentSpot → Option Part
 listed_part p spot = option_and_then
     (λ (content : Content). slice_get (parts_of content.runs (listed_at p spot.section spot.track)) spot.segment)
@@ -24,16 +24,16 @@ listed_part p spot = option_and_then
 abbrev pub is_within : Presented → SegmentSpot → Bool
 is_within p spot = nat_lt spot.section (length p.sections) && nat_lt spot.track (length p.tracks)
 
--- a place out of range has nothing
+-- `None` where it is out of range
 abbrev pub part_at : Presented → SegmentSpot → Option Part
 part_at p spot = if is_within p spot then listed_part p spot else None
 
 abbrev pub file_at : (folder : List ℕ) → Presented → SegmentSpot → Option (List ℕ)
 file_at folder p spot = option_and_then (λ (part : Part). local_name_of folder part.address) (part_at p spot)
 
--- ---- refusals
+-- ---- errors
 
--- A refusal names the manifest or a media file. A read that failed and want of memory are no refusals, and have no words.
+-- An error names the manifest or a media file. I/O errors and out of memory have no error code.
 abbrev pub named_by : (manifest : StorePlace) → Presented → TimesFault → Named
 named_by manifest p fault.OutsideBase = (manifest.file, refusal.Times times.OutsideBase)
 named_by manifest p (fault.File file told) = (file, refusal.Times (times.File told))

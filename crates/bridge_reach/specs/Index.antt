@@ -1,4 +1,4 @@
--- `hls-index`: from an MPD whose media files have an index inside, and these files, to playlists (ISO/IEC 23009-1, 5.3.9.2).
+-- `hls-index`: from an MPD whose media files have a `sidx`, and these files, to playlists (ISO/IEC 23009-1, 5.3.9.2).
 use Rattle.index_parts.specs.declared.fault.IndexFault.TheVariants as fault
 use Rattle.bridge_report.specs.declared.index_refusal.IndexRefusal.TheVariants as index
 use Rattle.bridge_report.specs.declared.refusal.Refusal.TheVariants as refusal
@@ -24,7 +24,7 @@ values_in place bytes = of_file place.file (values_of bytes)
 
 -- ---- the presentation
 
--- A refusal names the MPD or a media file. A read that failed and want of memory are no refusals, and have no words.
+-- An error names the MPD or a media file. I/O errors and out of memory have no error code.
 abbrev pub named_by : (mpd : List ℕ) → IndexFault → Named
 named_by mpd (fault.Presentation told) = (mpd, refusal.Presentation told)
 named_by mpd fault.OutsideBase = (mpd, refusal.Index index.OutsideBase)
@@ -36,18 +36,18 @@ named_by mpd fault.Memory = (mpd, refusal.Presentation Memory)
 abbrev pub presented_by : StorePlace → Files → TypedMpd (Option IndexRow) → Result Presented Named
 presented_by place files mpd = told_as (named_by place.file) (indexed_of place.url place.folder files mpd)
 
--- of the bytes of an MPD at a place, and the files of the store
+-- of the bytes of an MPD at a location, and the files of the store
 unfoldable pub presented_in : StorePlace → Files → (bytes : List ℕ) → Result Presented Named
 presented_in place files bytes = and_then (values_in place bytes) (presented_by place files)
 
--- each of whose segments has an address
+-- each of whose segments has a URL
 abbrev pub checked_in : (unit : ℕ) → StorePlace → Presented → Result Presented Named
 checked_in unit place p = of_file place.file (checked unit p)
 
 unfoldable pub ready_in : (unit : ℕ) → StorePlace → Files → (bytes : List ℕ) → Result Presented Named
 ready_in unit place files bytes = and_then (presented_in place files bytes) (checked_in unit place)
 
--- the same of the file at the place
+-- the same for the file at the location
 unfoldable pub ready_at : (unit : ℕ) → StorePlace → Files → Result Presented Named
 ready_at unit place files = and_then (content_of place.file files) (ready_in unit place files)
 
@@ -59,7 +59,7 @@ presented job place files = ready_at (10 ^ job.digits) place files
 abbrev pub outcome_of : IndexJob → Result Presented Named → Outcome
 outcome_of job read = outcome_written (playlists job.out job.digits) done_line read
 
--- the MPD is at this place
+-- the MPD is at this location
 abbrev pub index_at : IndexJob → Option Files → StorePlace → Option Outcome
 index_at job files place = option_map (λ files. outcome_of job (presented job place files)) files
 

@@ -1,4 +1,5 @@
--- What `dash-times` promises of the MPD that it writes, and `agree` of what it tells (ISO/IEC 14496-12, 8.4.2 and 8.8.12).
+-- What `dash-times` guarantees for the MPD that it writes, and `agree` for what it reports (ISO/IEC 14496-12, 8.4.2 and
+-- 8.8.12).
 use Rattle.bridge_courses.specs.declared.status.Verdict.TheVariants as verdict
 use Rattle.std.specs.{Prelude.{◌≡◌, ◌⊎◌, ◌<◌, ℕ, ◌+◌, ◌*◌, Bool, true, false, List, [], ◌∷◌, length, slice_get, Some, Ok}, Option.ForSome}
 use Rattle.bridge_io.specs.Outside.{Files}
@@ -16,23 +17,23 @@ use Rattle.bridge_reach.specs.{Agree.mpd_read, DashTimes.{dash_times_outcome, fi
 
 -- ---- `dash-times`
 
--- when segments begin that follow one another and last so long, of which the first one begins at a time
+-- the starts of consecutive segments with these durations, the first of which begins at `first`
 abbrev pub starts_from : (first : ℕ) → (durations : List ℕ) → List ℕ
 starts_from first [] = []
 starts_from first (ticks ∷ later) = first ∷ starts_from (first + ticks) later
 
--- A run counts in the timescale that the initialization part states, and its segments begin when their own files state.
+-- A run has the timescale of the init segment, and its segments begin at the decode times of their own files.
 pub record AreFileTimes (folder : List ℕ) (files : Files) (initialization : Part) (segments : List Part) (run : TickRun) : Type 0 where
   pub scale : scale_at folder files initialization ≡ Ok run.scale
   pub starts : all_starts folder files segments ≡ Ok (starts_from run.first run.durations)
 
--- what a track has in a section is timed so
+-- the content of a track in a section has these times
 abbrev pub IsTimed : (folder : List ℕ) → Files → Presented → List TickRun → (s t : ℕ) → Type 0
 IsTimed folder files p runs s t = ForSome (content_at p s t) (λ content. (run : TickRun) × (slice_get runs (s * length p.tracks + t)
     ≡ Some run)
     × AreFileTimes folder files content.initialization (parts_of content.runs (listed_at p s t)) run)
 
--- the MPD that is written has the times that the files of its segments state
+-- the written MPD has the decode times of its segments' files
 pub record IsWrittenTimed (job : MasterJob) (files : Files) (written : List (List ℕ × List ℕ)) : Type 0 where
   pub place : StorePlace
   pub at : store_place_of job.base job.master ≡ Some place
@@ -49,8 +50,8 @@ WrittenAreFileTimes = (job : MasterJob) (files : Files) (written : List (List �
 
 -- ---- `agree`
 
--- Whether a listed segment's start, with `@presentationTimeOffset` added, is the decode time that its file states over the
--- timescale of its track's media, as fractions.
+-- Whether a listed segment's start plus `@presentationTimeOffset` is its file's decode time over the timescale of its
+-- track's media, as fractions.
 pub record IsCompared (same : Bool) (folder : List ℕ) (files : Files) (p : Presented) (s t k : ℕ) : Type 0 where
   pub content : Content
   pub has : content_at p s t ≡ Some content
@@ -62,11 +63,11 @@ pub record IsCompared (same : Bool) (folder : List ℕ) (files : Files) (p : Pre
   pub stated : start_at folder files (part_meant content.runs times) ≡ Ok decode
   pub is : is_same (offset_of content.runs) scale times.start decode ≡ same
 
--- by section, track and place
+-- by section, track and index
 abbrev pub IsBefore : (s t k : ℕ) → SegmentSpot → Type 0
 IsBefore s t k spot = (s < spot.section) ⊎ ((s ≡ spot.section) × ((t < spot.track) ⊎ ((t ≡ spot.track) × (k < spot.segment))))
 
--- the MPD of a job, and the listed segments of which something is so
+-- the MPD of a command, with a property of its listed segments
 pub record IsRead (job : AgreeJob) (files : Files) (Of : (folder : List ℕ) → Presented → Type 0) : Type 0 where
   pub place : StorePlace
   pub at : store_place_of job.base job.mpd ≡ Some place
@@ -79,7 +80,7 @@ abbrev pub AllAgree : Files → (folder : List ℕ) → Presented → Type 0
 AllAgree files folder p = (s t k : ℕ) → s < length p.sections → t < length p.tracks → k < length (listed_at p s t)
     → IsCompared true folder files p s t k
 
--- the told one is the first that isn't
+-- the reported one is the first that isn't
 pub record IsFirstApart (files : Files) (line : List ℕ) (folder : List ℕ) (p : Presented) : Type 0 where
   pub spot : SegmentSpot
   pub told : line ≡ apart_text spot.section spot.track spot.segment

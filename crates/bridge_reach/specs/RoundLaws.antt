@@ -1,4 +1,4 @@
--- What rounds leave that are accepted one behind another.
+-- The state after snapshots that are accepted one after another.
 use Rattle.std.specs.Prelude.{◌≡◌, ℕ, codes, List, [], ◌∷◌, take, Some, IsSome}
 use Rattle.bridge_io.specs.{InOrder.put_all, Outside.{Files, Changes}}
 use Rattle.hls_master.specs.declared.track.MasterTrack.{MasterTrack}
@@ -10,16 +10,16 @@ use Rattle.bridge_report.specs.Laws.{accepted_in, state_after}
 use Rattle.bridge_reach.specs.Rounds.{course_with, followed_rounds, hls_of, no_rounds, round_stream}
 use Rattle.bridge_reach.specs.declared.rounds.LiveRounds.{LiveRounds}
 
--- the accepted ones among the first n rounds that bytes begin with, over a master's tracks
+-- the accepted ones among the first n snapshots that bytes begin with, for a master playlist's tracks
 abbrev pub accepted_among : (out : List ℕ) → List MasterTrack → (bytes : List ℕ) → (n : ℕ) → List Round
 accepted_among out tracks bytes n = let hls = hls_of out tracks in
     accepted_in (followed_rounds hls) (no_rounds tracks) (take n (round_stream hls start bytes).0)
 
--- what these left
+-- the state after these
 abbrev pub left_by : (out : List ℕ) → List MasterTrack → (bytes : List ℕ) → (n : ℕ) → LiveRounds
 left_by out tracks bytes n = state_after (followed_rounds (hls_of out tracks)) (no_rounds tracks) (accepted_among out tracks bytes n)
 
--- where a round was accepted, there is an MPD
+-- where a snapshot was accepted, there is an MPD
 abbrev pub AcceptedLeaveAnMpd : Type 0
 AcceptedLeaveAnMpd = (out : List ℕ) (tracks : List MasterTrack) (bytes : List ℕ) (n : ℕ) (round : Round) (more : List Round)
     → accepted_among out tracks bytes n ≡ round ∷ more → IsSome (left_by out tracks bytes n).follow.followed
@@ -29,8 +29,8 @@ abbrev pub NoneWriteNothing : Type 0
 NoneWriteNothing = (out : List ℕ) (tracks : List MasterTrack) (bytes : List ℕ) (n : ℕ) → accepted_among out tracks bytes n ≡ []
     → files_to n (course_with out tracks bytes) ≡ []
 
--- After the files of any number of rounds, of which one was accepted, the file is the text of the MPD that the whole accepted
--- history left.
+-- After the files of any number of snapshots, of which at least one was accepted, the file has the text of the MPD after the
+-- whole accepted history.
 abbrev pub FileIsOfTheHistory : Type 0
 FileIsOfTheHistory = (out : List ℕ) (tracks : List MasterTrack) (bytes : List ℕ) (n : ℕ) (followed : Followed) (first last : Files)
     → (left_by out tracks bytes n).follow.followed ≡ Some followed

@@ -1,4 +1,4 @@
--- `follow-hls`: from rounds of live playlists to an MPD (RFC 8216, 6.2; ISO/IEC 23009-1, 5.3).
+-- `follow-hls`: from snapshots of live playlists to an MPD (RFC 8216, 6.2; ISO/IEC 23009-1, 5.3).
 use Rattle.bridge_courses.specs.declared.ending.Ending.TheVariants as ending
 use Rattle.bridge_courses.specs.declared.status.Verdict.TheVariants as verdict
 use Rattle.bridge_report.specs.declared.refusal.Refusal.TheVariants as refusal
@@ -20,16 +20,16 @@ use Rattle.bridge_playlists.specs.{Places.store_place_of, Playlists.master_at, d
 use Rattle.bridge_steps.specs.{Follow.{course_placed, follow_course}, Streams.Stream}
 use Rattle.bridge_reach.specs.{declared.rounds.LiveHls.LiveHls, declared.rounds.LiveRounds.LiveRounds}
 
--- ---- the playlists of a round
+-- ---- the playlists of a snapshot
 
 abbrev pub media_in : (url body : List ℕ) → Result Media Refusal
 media_in url body = told_as refusal.Media (media_of body url)
 
--- one more playlist, which is at this URL
+-- one more playlist, with this URL
 unfoldable pub medias_with : List Media → (url body : List ℕ) → Result (List Media) Refusal
 medias_with medias url body = and_then (media_in url body) (λ media. Ok (medias ++ media ∷ []))
 
--- behind some playlists those that bodies are, each at its URL, or the first fault
+-- after some playlists those of bodies, each with its URL, or the first fault
 abbrev pub medias_behind : List Media → (urls bodies : List (List ℕ)) → Result (List Media) Refusal
 medias_behind medias [] bodies = Ok medias
 medias_behind medias (url ∷ urls) [] = Ok medias
@@ -38,14 +38,14 @@ medias_behind medias (url ∷ urls) (body ∷ bodies) = and_then (medias_with me
 abbrev pub medias_of : (urls bodies : List (List ℕ)) → Result (List Media) Refusal
 medias_of urls bodies = medias_behind [] urls bodies
 
--- ---- what a round leaves
+-- ---- the state after a snapshot
 
--- one more round is accepted, or its playlists may not follow those before
+-- one more snapshot is accepted, or its playlists can't follow those before
 unfoldable pub taken : LiveRounds → (now : ℤ) → List Media → Result LiveRounds Refusal
 taken s now medias =
     and_then (told_as refusal.Live (next_of s.follow now medias)) (λ follow. Ok (record { follow = follow; accepted = s.accepted + 1 }))
 
--- each playlist is read, also one of a track that is left out, before any is judged
+-- each playlist is read, also one of a dropped track, before any is checked
 unfoldable pub round_state : LiveHls → LiveRounds → Round → Result LiveRounds Refusal
 round_state hls s round = and_then (medias_of hls.urls round.bodies) (taken s round.now)
 
@@ -53,7 +53,7 @@ round_state hls s round = and_then (medias_of hls.urls round.bodies) (taken s ro
 unfoldable pub round_appends : LiveHls → LiveRounds → Round → ℕ
 round_appends hls s round = option_map_or (appended_by s.follow) (result_ok (medias_of hls.urls round.bodies)) 0
 
--- the MPD of what the accepted rounds left
+-- the text of the MPD after the accepted snapshots
 abbrev pub mpd_text : LiveRounds → List ℕ
 mpd_text s = option_map_or (λ followed. live_text followed.mpd) s.follow.followed []
 
@@ -69,16 +69,16 @@ followed_rounds hls = record {
   makes = λ s round. 0;
 }
 
--- the rounds of a stream of bytes, with a body for each track
+-- the snapshots of a stream of bytes, with a body for each track
 abbrev pub round_stream : LiveHls → FramePos → List ℕ → Stream Round
 round_stream hls at bytes = rounds_from (length hls.urls) at bytes
 
--- a round that is read has a body for each track
+-- a snapshot that was read has a body for each track
 pub record IsRead (hls : LiveHls) (round : Round) : Type 0 where
   pub now : IsReadable round.now
   pub one_each : length round.bodies ≡ length hls.urls
 
--- each track has its URL, and where a round was accepted, there is an MPD
+-- each track has its URL, and where a snapshot was accepted, there is an MPD
 pub record IsKept (hls : LiveHls) (s : LiveRounds) : Type 0 where
   pub one_each : length s.follow.tracks ≡ length hls.urls
   pub mpd : 0 < s.accepted → IsSome s.follow.followed
@@ -88,24 +88,24 @@ pub record IsKept (hls : LiveHls) (s : LiveRounds) : Type 0 where
 abbrev pub urls_of : List MasterTrack → List (List ℕ)
 urls_of tracks = map (λ (track : MasterTrack). track.address) tracks
 
--- the playlists of a master's tracks, with the MPD in a folder
+-- the playlists of a master playlist's tracks, with the MPD in a folder
 abbrev pub hls_of : (out : List ℕ) → List MasterTrack → LiveHls
 hls_of out tracks = record { urls = urls_of tracks; name = in_folder out (codes "live.mpd") }
 
 abbrev pub no_rounds : List MasterTrack → LiveRounds
 no_rounds tracks = record { follow = record { tracks = tracks; followed = None }; accepted = 0 }
 
--- the rounds of these bytes are followed
+-- the snapshots of these bytes are followed
 abbrev pub course_with : (out : List ℕ) → List MasterTrack → (bytes : List ℕ) → Course
 course_with out tracks bytes = let hls = hls_of out tracks in
     follow_course (followed_rounds hls) (round_stream hls) (no_rounds tracks) bytes
 
--- a master that is refused is told whatever the input tells
+-- a rejected master playlist is reported whatever the input contains
 abbrev pub rounds_of : (out : List ℕ) → (input : Option (List ℕ)) → Result (List MasterTrack) Named → Option Course
 rounds_of out input (Ok tracks) = option_map (course_with out tracks) input
 rounds_of out input (Err named) = Some (course_by (Ends verdict.Refused (refusal_line named.0 named.1) true true))
 
--- the master is at this place, and its rounds come from the input
+-- the master playlist is at this location, and its snapshots come from the input
 abbrev pub rounds_at : (out : List ℕ) → Option Files → (input : Option (List ℕ)) → StorePlace → Option Course
 rounds_at out files input place = option_and_then (λ files. rounds_of out input (master_at place files)) files
 
@@ -114,7 +114,7 @@ rounds_course job files input = course_placed (rounds_at job.out files input) (s
 
 -- ---- causes
 
--- a fault has its cause, of reading in the input or in the store, and no work ends with Words
+-- an I/O error has its cause, a read error in the input or in the store, and no work ends with `Words`
 abbrev pub IsCausedByEither : Ending → (before after : World) → Type 0
 IsCausedByEither ending.ReadFault before after =
     Rose before.input_faults after.input_faults ⊎ Rose before.read_faults after.read_faults

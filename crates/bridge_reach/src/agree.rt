@@ -1,4 +1,4 @@
-// `agree`: whether the times of an MPD are those that its media files state.
+// `agree`: whether the times of an MPD are the decode times of its media files.
 ghost use Rattle.std.specs.Prelude.{◌≡◌, ◌≢◌, Ok, IfOk};
 ghost use Rattle.bridge_courses.specs.declared.status.Status.TheVariants as status;
 ghost use Rattle.bridge_courses.specs.Executions.{status_by};
@@ -19,8 +19,8 @@ use fragment_times::{SegmentSpot, first_apart};
 use presentation::Presentation;
 use std::alloc::Global;
 
-/// Tells whether each listed segment of a job's MPD has the decode time that its media file states (ISO/IEC 14496-12, 8.8.12),
-/// or the first one that has another, unless a file is refused. Nothing is written.
+/// Reports whether each listed segment of the command's MPD has the decode time of its media file (ISO/IEC 14496-12, 8.8.12),
+/// or the first one that differs, unless a file is rejected. Nothing is written.
 #[tactic(auto, unfolding(crate::specs::Agree::agree_outcome))]
 pub fn run_agree<F: Store, L: Ledger>(
     alloc: Global,
@@ -38,7 +38,7 @@ pub fn run_agree<F: Store, L: Ledger>(
     }
 }
 
-/// What is told of the MPD at a place, or why a file isn't read.
+/// The report on the MPD at a location, or why a file isn't read.
 #[tactic(auto, unfolding(crate::specs::Agree::judged))]
 fn judged<F: Store, L: Ledger>(
     alloc: Global,
@@ -56,7 +56,7 @@ fn judged<F: Store, L: Ledger>(
     Ok(verdict_of(alloc, &ready.presentation, apart)?)
 }
 
-/// What is told of an MPD whose first segment with another time is this one.
+/// The report on an MPD, given its first segment with a different time.
 fn verdict_of(
     alloc: Global,
     mpd: &Presentation,

@@ -1,4 +1,4 @@
-// `dash-times`: from playlists to an MPD with the times that the media files state.
+// `dash-times`: from playlists to an MPD with the decode times of the media files.
 ghost use Rattle.std.specs.Prelude.{◌≡◌, codes, get_or, length, Ok, Some, IfOk};
 ghost use Rattle.dash_writer.specs.Timed.{CanBeTimed};
 ghost use Rattle.presentation.specs.Counting.{counted, count_of_all};
@@ -26,8 +26,8 @@ struct Timed {
     runs: TickList,
 }
 
-/// Writes the MPD of a job's master and its playlists with the decode times that the media files state (ISO/IEC 14496-12,
-/// 8.8.12), unless one of the files is refused.
+/// Writes the MPD for the command's master playlist and its media playlists with the decode times of the media files
+/// (ISO/IEC 14496-12, 8.8.12), unless one of the files is rejected.
 #[tactic(auto, unfolding(crate::specs::DashTimes::dash_times_outcome))]
 pub fn run_dash_times<F: Store, L: Ledger>(
     alloc: Global,
@@ -68,7 +68,7 @@ fn write<F: Store, L: Ledger>(
     written(line, wrote)
 }
 
-/// The presentation of the master at a place, with the media times that the files of its segments state; or the first refusal.
+/// The presentation of the master playlist at a location, with the decode times of its segments' files; or the first error.
 /// [`Halt::ReadFault`] comes only where the store's count of failed reads rose.
 #[tactic(auto, unfolding(crate::specs::DashTimes::timed_at))]
 fn timed_at<F: Store, L: Ledger>(
@@ -86,7 +86,7 @@ fn timed_at<F: Store, L: Ledger>(
     Ok(Timed { presentation, runs })
 }
 
-/// The media times of a presentation's segments, as their files state them.
+/// The media times of a presentation's segments, by their files.
 #[tactic(auto, unfolding(crate::specs::DashTimes::runs_at))]
 fn runs_at<F: Store, L: Ledger>(
     alloc: Global,
@@ -107,7 +107,7 @@ fn runs_at<F: Store, L: Ledger>(
     Ok(runs_of(alloc, starts, ticks)?)
 }
 
-/// When segments begin and how long they last, in ticks.
+/// The starts and durations of segments, in ticks.
 fn runs_of(
     alloc: Global,
     times: &[SegmentTimes],
@@ -123,7 +123,7 @@ fn runs_of(
     Ok(runs)
 }
 
-/// The same of a track in a section. A track without segments begins at 0.
+/// The same for a track in a section. A track without segments begins at 0.
 fn run_of(alloc: Global, times: &SegmentTimes, ticks: &TickSeq) -> Result<TickRun, NoMemory>
     ensures { IfOk result (λ run. run ≡ spec.run_of times.now ticks.now) }
 {

@@ -1,4 +1,4 @@
-// The times that the media files of a presentation state, and which file is refused for them.
+// The decode times of a presentation's media files, and which file is rejected for them.
 ghost use Rattle.std.specs.Prelude.{◌≡◌, ◌≢◌, All, IfOk, IfSome, Some, length};
 ghost use Rattle.bridge_io.specs.Answer.{Gives};
 ghost use Rattle.fragment_times.specs.declared.fault.TimesFault.TheVariants.{Fault, Segment};
@@ -19,8 +19,8 @@ use fragment_times::{
 use presentation::Presentation;
 use std::alloc::Global;
 
-/// The media times of a presentation's listed segments as the media files state them, or the first refusal, of a media file or
-/// of the manifest at the place. [`Halt::ReadFault`] comes only where the store's count of failed reads rose.
+/// The media times of a presentation's listed segments by the media files, or the first error, of a media file or of the
+/// manifest. [`Halt::ReadFault`] comes only where the store's count of failed reads rose.
 pub(crate) fn times_at<F: Store, L: Ledger>(
     alloc: Global,
     manifest: &StorePlace,
@@ -40,7 +40,7 @@ pub(crate) fn times_at<F: Store, L: Ledger>(
     }
 }
 
-/// How many ticks each segment lasts by these times, or the first refusal.
+/// The duration of each segment in ticks by these times, or the first error.
 pub(crate) fn durations_at<L: Ledger>(
     alloc: Global,
     manifest: &StorePlace,
@@ -61,7 +61,7 @@ pub(crate) fn durations_at<L: Ledger>(
     }
 }
 
-/// Which file is refused, and why.
+/// Which file is rejected, and why.
 fn untimed<L: Ledger>(
     alloc: Global,
     manifest: &StorePlace,
@@ -96,7 +96,7 @@ fn untimed<L: Ledger>(
     }
 }
 
-/// The media file of a segment is refused.
+/// Rejects the media file of a segment.
 fn segment_refused<L: Ledger>(
     alloc: Global,
     manifest: &StorePlace,

@@ -1,4 +1,4 @@
-// `follow-hls`: from rounds of live playlists to an MPD.
+// `follow-hls`: from snapshots of live playlists to an MPD.
 ghost use Rattle.std.specs.Prelude.{◌≡◌, IfOk, option_map};
 ghost use Rattle.bridge_courses.specs.Steps.{IsCaused};
 ghost use Rattle.bridge_steps.specs.Follow.{RunsAs, world_of};
@@ -15,9 +15,9 @@ use hls_follow::Follow;
 use hls_master::{Master, MasterTrack};
 use std::alloc::Global;
 
-/// Works off the rounds of the input over the tracks of the job's master, which is read once and first: the MPD of each accepted
-/// one is written as `live.mpd`, and each round has a line. [`Ending::ReadFault`] comes only where the store's count of failed
-/// reads rose, or the input's.
+/// Processes the snapshots of the input for the tracks of the command's master playlist, which is read once and first: the MPD
+/// of each accepted one is written as `live.mpd`, and each snapshot has a line. [`Ending::ReadFault`] comes only where the
+/// store's count of failed reads rose, or the input's.
 #[tactic(auto, unfolding(crate::specs::Rounds::rounds_course))]
 pub fn run_follow_hls<I: Source, F: Store, P: Sink, L: Ledger>(
     alloc: Global,
@@ -40,7 +40,7 @@ pub fn run_follow_hls<I: Source, F: Store, P: Sink, L: Ledger>(
     }
 }
 
-/// The same of the master at a place.
+/// The same for the master playlist at a location.
 fn follow_at<I: Source, F: Store, P: Sink, L: Ledger>(
     alloc: Global,
     place: &StorePlace,
@@ -63,7 +63,7 @@ fn follow_at<I: Source, F: Store, P: Sink, L: Ledger>(
     }
 }
 
-/// Works off the rounds of the input over a master's tracks.
+/// Processes the snapshots of the input for a master playlist's tracks.
 fn follow_master<I: Source, F: Store, P: Sink, L: Ledger>(
     alloc: Global,
     master: Master,
@@ -89,7 +89,7 @@ fn follow_master<I: Source, F: Store, P: Sink, L: Ledger>(
     }
 }
 
-/// What is followed, and no round that was accepted.
+/// What is followed, before the first snapshot.
 #[derive(Drop)]
 struct Begun {
     hls: LiveHls,

@@ -1,4 +1,4 @@
-// `hls-index`: from an MPD and the indexes of its media files to playlists.
+// `hls-index`: from an MPD and the `sidx` of its media files to playlists.
 ghost use Rattle.std.specs.Prelude.{◌≡◌, ◌^◌, Ok, IfOk, IfSome, Some};
 ghost use Rattle.bridge_io.specs.Answer.{Gives};
 ghost use Rattle.index_parts.specs.declared.fault.IndexFault.TheVariants.{Fault};
@@ -22,7 +22,7 @@ use mpd_rules::{IndexedMpd, rules_indexed};
 use presentation::Presentation;
 use std::alloc::Global;
 
-/// Writes the playlists of a job's MPD and its media files, unless one of them is refused.
+/// Writes the playlists for the command's MPD and its media files, unless one of them is rejected.
 #[tactic(auto, unfolding(crate::specs::Index::index_outcome))]
 pub fn run_hls_index<F: Store, L: Ledger>(
     alloc: Global,
@@ -60,9 +60,8 @@ fn write<F: Store, L: Ledger>(
     written(line, write_playlists(alloc, &job.out, ready, store, steps))
 }
 
-/// The presentation of the MPD in the file at a place, whose media files have an index inside, with the address of each segment;
-/// or the first refusal, of the MPD or of a media file. [`Halt::ReadFault`] comes only where the store's count of failed reads
-/// rose.
+/// The presentation of the MPD in the file at a location, whose media files have a `sidx`, with the URL of each segment; or the
+/// first error, of the MPD or of a media file. [`Halt::ReadFault`] comes only where the store's count of failed reads rose.
 #[tactic(auto, unfolding(crate::specs::Index::ready_at))]
 fn indexed_at<F: Store, L: Ledger>(
     alloc: Global,
@@ -78,7 +77,7 @@ fn indexed_at<F: Store, L: Ledger>(
     indexed_in(alloc, place, bytes, digits, store, steps)
 }
 
-/// The same of bytes that the file at the place has.
+/// The same, given the bytes of the file at the location.
 #[tactic(auto, unfolding(crate::specs::Index::ready_in, crate::specs::Index::presented_in))]
 fn indexed_in<F: Store, L: Ledger>(
     alloc: Global,
@@ -97,7 +96,7 @@ fn indexed_in<F: Store, L: Ledger>(
     checked_in(alloc, place, presentation, digits, steps)
 }
 
-/// Looks at each segment of the presentation.
+/// Checks each segment of the presentation.
 fn checked_in<L: Ledger>(
     alloc: Global,
     place: &StorePlace,
@@ -128,8 +127,9 @@ fn values_in(alloc: Global, place: &StorePlace, bytes: Bytes) -> Result<IndexedM
     }
 }
 
+/// The values of an MPD whose media files have an index inside, of its bytes, or why they are refused.
 #[tactic(auto, unfolding(crate::specs::Index::values_of))]
-fn values_of(alloc: Global, bytes: Bytes) -> Result<IndexedMpd, Stop>
+pub fn values_of(alloc: Global, bytes: Bytes) -> Result<IndexedMpd, Stop>
     ensures { Gives index_mpd refused_in result (spec.values_of bytes) }
 {
     let tree = tree_of(alloc, bytes)?;
@@ -155,7 +155,7 @@ fn presented<F: Store>(
     }
 }
 
-/// Which file is refused, and why.
+/// Which file is rejected, and why.
 fn unpresented(alloc: Global, mpd: &Name, fault: IndexFault) -> Halt
     ensures told { IfSome (halted result) (λ named. (refusal fault ≡ Some fault) × (named ≡ spec.named_by mpd.now fault)) }
     ensures read_fault { result ≡ ReadFault → fault ≡ Fault }

@@ -1,5 +1,5 @@
-//! Commands that read more of a presentation than its manifest: the indexes of its media files, the times that these state, and
-//! rounds of its live playlists.
+//! Commands that read more of a presentation than its manifest: the `sidx` of its media files, their decode times, and
+//! snapshots of its live playlists.
 #![tactic(auto)]
 
 mod agree;
@@ -15,6 +15,6 @@ mod segment_file;
 pub use agree::run_agree;
 pub use dash_times::run_dash_times;
 pub use follow_hls::run_follow_hls;
-pub use index::run_hls_index;
+pub use index::{run_hls_index, values_of};
 pub use laws::{what_agrees_has_the_files_times, what_is_written_has_the_files_times};
 pub use round_laws::the_mpd_is_of_the_accepted_rounds;

@@ -1,4 +1,4 @@
-// Live playlists that are followed.
+// Following live playlists.
 ghost use Rattle.std.specs.Prelude.{◌≡◌, ◌+◌, ◌<◌, All, length, IfOk, OnErr};
 ghost use Rattle.bridge_io.specs.Answer.{Gives};
 ghost use Rattle.iso_time.specs.Instant.{IsReadable};
@@ -23,21 +23,21 @@ use url_parts::Base;
 /// The URLs of playlists.
 pub type BaseList = Sequence<Base>;
 
-/// Live playlists that are followed, by rounds of them.
+/// Live playlists that are followed, by snapshots.
 #[derive(Drop)]
 pub struct LiveHls {
-    /// The playlists' URLs, by the tracks of the master.
+    /// The playlists' URLs, by the tracks of the master playlist.
     pub urls: BaseList,
     /// The file of the MPD.
     pub name: Name,
 }
 
-/// What the accepted rounds left.
+/// The state after the accepted snapshots.
 #[derive(Drop)]
 pub struct LiveRounds {
     /// The presentation.
     pub follow: hls_follow::Follow,
-    /// How many rounds were accepted.
+    /// How many snapshots were accepted.
     pub accepted: u64,
 }
 
@@ -89,7 +89,8 @@ impl Follow for LiveHls {
     }
 }
 
-/// Takes a round's playlists, and answers how many segments it appended; or why it is refused, and then nothing is changed.
+/// Applies a snapshot's playlists, and returns how many segments it appended; or why it is rejected, and then nothing is
+/// changed.
 #[tactic(auto, unfolding(crate::specs::Rounds::taken))]
 fn take(live: &mut LiveRounds, now: Instant, medias: &MediaFiles) -> Result<u64, Stop>
     requires now { IsReadable now }
@@ -109,7 +110,7 @@ fn take(live: &mut LiveRounds, now: Instant, medias: &MediaFiles) -> Result<u64,
     }
 }
 
-/// Reads the playlists of a round, also those of tracks that are left out.
+/// Reads the playlists of a snapshot, also those of dropped tracks.
 fn round_medias(alloc: Global, hls: &LiveHls, bodies: &BodyList) -> Result<MediaFiles, Stop>
     requires { length bodies.now ≡ length hls.now.urls }
     ensures medias { Gives (λ medias. medias) refused_in result (spec.medias_of hls.now.urls bodies.now) }
@@ -119,7 +120,7 @@ fn round_medias(alloc: Global, hls: &LiveHls, bodies: &BodyList) -> Result<Media
     medias_of(alloc, hls.urls.as_slice(), bodies.as_slice())
 }
 
-/// Reads playlists in order, each of which is at its URL (RFC 8216, 4).
+/// Reads playlists in order, each with its URL (RFC 8216, 4).
 fn medias_of(alloc: Global, mut urls: &[Base], mut bodies: &[Bytes]) -> Result<MediaFiles, Stop>
     requires { length bodies.now ≡ length urls.now }
     ensures medias { Gives (λ medias. medias) refused_in result (spec.medias_of urls.entry.now bodies.entry.now) }
@@ -137,7 +138,7 @@ fn medias_of(alloc: Global, mut urls: &[Base], mut bodies: &[Bytes]) -> Result<M
     Ok(medias)
 }
 
-/// Adds the playlist that bytes at a URL are.
+/// Adds the playlist of bytes at a URL.
 #[tactic(auto, unfolding(crate::specs::Rounds::medias_with))]
 fn medias_with(
     alloc: Global,
@@ -158,7 +159,7 @@ fn medias_with(
     }
 }
 
-/// The media playlist that bytes at a URL are.
+/// Bytes at a URL as a media playlist.
 fn media_in(alloc: Global, url: &Base, body: &[u8]) -> Result<Media, Stop>
     ensures media { Gives (λ media. media) refused_in result (spec.media_in url.now body.now) }
     ensures bounded { IfOk result IsBounded }

@@ -29,7 +29,7 @@ pub(crate) fn file_at<L: Ledger>(
     }
 }
 
-/// Where a listed segment lies. A place out of range has nothing.
+/// The URL and byte range of a listed segment; `None` where it is out of range.
 #[tactic(auto, using(crate::proofs::Passing::part_is))]
 fn part_at<L: Ledger>(
     alloc: Global,
@@ -54,7 +54,7 @@ fn is_within(presentation: &Presentation, spot: SegmentSpot) -> bool
     spot.section < presentation.sections().len() && spot.track < presentation.tracks().len()
 }
 
-/// Where the segment at a place of those that are left lies, of which each has an address.
+/// The URL and byte range of the segment at an index of those that are left, each of which has a URL.
 #[tactic(auto, using(crate::proofs::Passing::first_behind))]
 fn nth_part<L: Ledger>(
     alloc: Global,
@@ -69,7 +69,7 @@ fn nth_part<L: Ledger>(
     next_part(alloc, &mut rest, steps)
 }
 
-/// What is left behind so many segments, of which each has an address.
+/// What is left after `count` segments, each of which has a URL.
 fn behind<'a, L: Ledger>(listing: Listing<'a>, count: usize, steps: &mut Steps<L>) -> Listing<'a>
     requires { All (HasAddress listing.timeline) listing.left }
     ensures addressed { All (HasAddress result.timeline) result.left }
@@ -82,7 +82,7 @@ fn behind<'a, L: Ledger>(listing: Listing<'a>, count: usize, steps: &mut Steps<L
     rest
 }
 
-/// Where the next segment lies of those that are left, of which each has an address.
+/// The URL and byte range of the next segment of those that are left, each of which has a URL.
 fn next_part<L: Ledger>(
     alloc: Global,
     listing: &mut Listing<'_>,

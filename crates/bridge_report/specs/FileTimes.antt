@@ -1,4 +1,4 @@
--- The words of the report for media files whose own times are wanted, and where a refusal stands in one.
+-- The error codes of the report for media files whose decode times are needed, and the position of an error in one.
 use Rattle.box_reader.specs.declared.head.BoxFault.TheVariants as boxes
 use Rattle.layer_faults.specs.declared.times.FileFault.TheVariants as file
 use Rattle.std.specs.Prelude.{ℕ, List, codes, Option, Some, None}

@@ -1,11 +1,12 @@
--- The course of a followed presentation: a step for each frame, accepted or refused.
+-- The course of a followed presentation: a step for each update frame, accepted or rejected.
 use Rattle.bridge_courses.specs.declared.status.Verdict.TheVariants as verdict
 use Rattle.std.specs.Prelude.{ℕ, ◌+◌, true, List, [], ◌∷◌, ◌++◌, codes, decimal, Option, Some, None}
 use Rattle.bridge_courses.specs.{declared.status.Verdict.Verdict, Courses.{Step, End, Course}, Steps.{with_step, only_end}}
 
--- What is followed, as its layers tell it: of type S is what the accepted frames left, of type X a frame. `refusal` tells
--- why a frame may not follow, in the report's words. `files` are those that are written of what an accepted one leaves,
--- `appended` is the number in its line, and `makes` how many segments are made for it, or at most where it is refused.
+-- What is followed, by its layers: S is the type of the state after the accepted update frames, and X that of an update
+-- frame. `refusal` is why a frame is rejected, as in the report. `files` are those that are written for the state after an
+-- accepted one, `appended` is the number in its line, and `makes` how many segments are made for it, or at most where it is
+-- rejected.
 pub record Followed (S X : Type 0) : Type 0 where
   pub refusal : S → X → Option (List ℕ)
   pub after : S → X → S
@@ -15,7 +16,7 @@ pub record Followed (S X : Type 0) : Type 0 where
 
 -- ---- lines
 
--- a frame is told by its place in the stream, counted from 0
+-- a frame is reported by its index in the stream, counted from 0
 unfoldable pub accepted_line : (frame appended : ℕ) → List ℕ
 accepted_line frame appended = codes "frame " ++ decimal frame ++ codes " ok appended=" ++ decimal appended ++ codes "\n"
 
@@ -42,7 +43,7 @@ abbrev pub line_by : (frame appended : ℕ) → Option (List ℕ) → List ℕ
 line_by frame appended None = accepted_line frame appended
 line_by frame appended (Some refusal) = refused_frame frame refusal
 
--- the step of a frame: a refused one writes no file
+-- the step of a frame: a rejected one writes no file
 abbrev pub step_of : {S X : Type 0} → Followed S X → S → (frame : ℕ) → X → Step
 step_of f s i x = record {
   files = unless_refused (f.refusal s x) (f.files (f.after s x)) [];
@@ -52,7 +53,7 @@ step_of f s i x = record {
   reads = true;
 }
 
--- what a frame leaves: a refused one changes nothing
+-- the state after a frame: a rejected one changes nothing
 abbrev pub next_of : {S X : Type 0} → Followed S X → S → X → S
 next_of f s x = unless_refused (f.refusal s x) (f.after s x) s
 
@@ -61,7 +62,7 @@ accepted_with f s x accepted = unless_refused (f.refusal s x) (accepted + 1) acc
 
 -- ---- all frames
 
--- a stream that isn't whole is refused with a line
+-- a stream that isn't valid is rejected with a line
 abbrev pub verdict_by : Option (List ℕ) → Verdict
 verdict_by None = verdict.Done
 verdict_by (Some line) = verdict.Refused
@@ -73,7 +74,7 @@ last_line frames accepted (Some line) = line
 abbrev pub end_by : (frames accepted : ℕ) → Option (List ℕ) → End
 end_by frames accepted fault = record { verdict = verdict_by fault; lines = last_line frames accepted fault; reads = true }
 
--- after some frames, of which some are accepted, the course of those that are left
+-- the course of the remaining frames, after some frames, some of which were accepted
 unfoldable pub course_from : {S X : Type 0} → Followed S X → S → (frames accepted : ℕ) → List X → (fault : Option (List ℕ)) → Course
 course_from f s i a [] fault = only_end (end_by i a fault)
 course_from f s i a (x ∷ xs) fault = with_step (step_of f s i x) (course_from f (next_of f s x) (i + 1) (accepted_with f s x a) xs fault)

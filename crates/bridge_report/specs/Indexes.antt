@@ -1,4 +1,4 @@
--- The words of the report for media files with an index inside, and where a refusal stands in one.
+-- The error codes of the report for media files with a `sidx`, and the position of an error in one.
 use Rattle.box_reader.specs.declared.head.BoxFault.TheVariants as boxes
 use Rattle.layer_faults.specs.declared.index.FileFault.TheVariants as file
 use Rattle.std.specs.Prelude.{ℕ, List, codes, Option, Some, None}
@@ -23,7 +23,7 @@ index_words OutsideBase = codes "index 1 OutsideBase"
 index_words TooLong = codes "index 2 TooLong"
 index_words (File fault) = file_words fault
 
--- a box, or a reference of the index
+-- a box, or a reference of the `sidx`
 abbrev pub file_spot : FileFault → Option Spot
 file_spot (file.Boxes (boxes.Cut at)) = Some (Byte at)
 file_spot (file.Boxes (boxes.Size at)) = Some (Byte at)

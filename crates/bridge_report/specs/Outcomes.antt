@@ -1,4 +1,4 @@
--- How a command ends that reads all before it writes, and what it then leaves.
+-- How a command ends that reads everything before it writes, and what it then leaves.
 use Rattle.bridge_courses.specs.declared.status.Verdict.TheVariants as verdict
 use Rattle.bridge_courses.specs.declared.ending.Ending.TheVariants as ending
 use Rattle.bridge_report.specs.declared.reading.Halt.TheVariants as halt
@@ -8,13 +8,14 @@ use Rattle.bridge_io.specs.{Outside.{Files, Changes}, InOrder.{put_all, AreBegun
 use Rattle.bridge_courses.specs.{declared.status.Verdict.Verdict, declared.ending.Ending.Ending, Executions.words_line, Courses.Course}
 use Rattle.bridge_report.specs.{declared.reading.Halt.Halt, Reading.Named, Refusals.refusal_line}
 
--- It ends without a file, with a verdict and its line, after files are read or without reading; `counts` tells that no
--- segment is made before. Or it is done: it writes files, in order, after all is read, if anything is, and then tells a line.
+-- It ends without writing a file, with a verdict and its line, after files are read or without reading; `counts` says that no
+-- segment is made before. Or it succeeds: it writes files, in order, after everything is read, if anything is, and then
+-- reports a line.
 pub data Outcome : Type 0 where
   Ends : (verdict : Verdict) (line : List ℕ) (reads counts : Bool) → Outcome
   Writes : (files : List (List ℕ × List ℕ)) (line : List ℕ) (reads : Bool) → Outcome
 
--- How many segments are made isn't told where some may be.
+-- The number of segments made isn't specified where some may be.
 abbrev pub course_by : Outcome → Course
 course_by (Ends end line reads counts) = record {
   steps = [];
@@ -50,7 +51,7 @@ IsEnding outcome ending.WriteFault before after = Begins outcome before after
 IsEnding outcome ending.Memory before after = (after ≡ before) ⊎ Begins outcome before after
 IsEnding outcome (ending.Cut fail) before after = ⊥
 
--- a refusal with this line, unless memory is wanting for it
+-- an error with this line, unless memory runs out for it
 abbrev pub IsRefusal : List ℕ → Ending → Type 0
 IsRefusal line told = (told ≡ ending.Ended verdict.Refused line) ⊎ (told ≡ ending.Memory)
 
@@ -60,15 +61,15 @@ IsHalt (halt.Refused file refusal) told = IsRefusal (refusal_line file refusal) 
 IsHalt halt.ReadFault told = told ≡ ending.ReadFault
 IsHalt halt.Memory told = told ≡ ending.Memory
 
--- ---- refusals
+-- ---- errors
 
--- a base that is refused is told without a file, and whatever the store tells
+-- a rejected base is reported without a file, whatever the store contains
 abbrev pub base_refused : Outcome
 base_refused = Ends verdict.Refused (refusal_line (codes "-") refusal.Base) false true
 
 -- ---- a command that only reads
 
--- what is told of the files, or the refusal of one of them
+-- the report on the files, or the error of one of them
 abbrev pub outcome_told : Result (Verdict × List ℕ) Named → Outcome
 outcome_told (Ok told) = Ends told.0 told.1 true false
 outcome_told (Err named) = Ends verdict.Refused (refusal_line named.0 named.1) true false

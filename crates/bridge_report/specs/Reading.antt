@@ -1,4 +1,4 @@
--- The files of a job, or the first of them that is refused.
+-- The files of a command, or the first one that is rejected.
 use Rattle.bridge_report.specs.declared.reading.Halt.TheVariants as halt
 use Rattle.bridge_report.specs.declared.refusal.Refusal.TheVariants as refusal
 use Rattle.bridge_io.specs.declared.outside.Store.{Ghosts as Store}
@@ -7,11 +7,11 @@ use Rattle.bridge_io.specs.{Answer.{Gives, and_then, told_as}, Fault.HasCause, O
 use Rattle.hls_media.specs.{declared.media.Media.Media, Media.media_of}
 use Rattle.bridge_report.specs.{declared.reading.Halt.Halt, declared.refusal.Refusal.Refusal, Refusals.refusal_of_file}
 
--- the bytes that a manifest has at most
+-- the most bytes of a manifest
 abbrev pub manifest_limit : ℕ
 manifest_limit = 8388608
 
--- a refusal with the name of its file
+-- an error with the name of its file
 abbrev pub Named : Type 0
 Named = List ℕ × Refusal
 
@@ -25,11 +25,11 @@ content_of file files = of_file file (told_as refusal_of_file (whole_file manife
 abbrev pub media_in : (file url bytes : List ℕ) → Result Media Named
 media_in file url bytes = of_file file (told_as refusal.Media (media_of bytes url))
 
--- the media playlist of a file that is at this URL
+-- the media playlist of a file with this URL
 unfoldable pub media_at : (file url : List ℕ) → Files → Result Media Named
 media_at file url files = and_then (content_of file files) (media_in file url)
 
--- what an answer tells of the files: nothing where it is a fault or want of memory
+-- what an error says about the files: nothing where it is an I/O error or out of memory
 abbrev pub halted : Halt → Option Named
 halted (halt.Refused file refusal) = Some (file, refusal)
 halted halt.ReadFault = None
@@ -39,8 +39,8 @@ halted halt.Memory = None
 abbrev pub IsNoReadFault : {X : Type 0} → Result X Halt → Type 0
 IsNoReadFault read = IsErrOf read halt.ReadFault → ⊥
 
--- What is read of a store's files: where they are told, what is given for them; a fault comes only where the count of failed reads
--- rose; and nothing is written.
+-- What is read from a store's files: where the store models them, the result for them; a read error comes only where the count of
+-- failed reads rose; and nothing is written.
 pub record ReadsAs {F X Y : Type 0} (store : Store F) (old new : F) (shown : X → Y) (given : Files → Result Y Named)
     (result : Result X Halt) : Type 0 where
   pub read : ForSome (store.files old) (λ files. Gives shown halted result (given files))

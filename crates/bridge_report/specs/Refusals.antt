@@ -1,4 +1,4 @@
--- Why a job's input is refused, and the line of the report that tells it.
+-- Why a command's input is rejected, and the report's line for it.
 use Rattle.bridge_jobs.specs.declared.frame.FrameFault.TheVariants as frame
 use Rattle.mpd_tree.specs.declared.fault.TextFault.TheVariants as text
 use Rattle.mpd_profile.specs.declared.fault.RuleFault.TheVariants as rules
@@ -59,12 +59,12 @@ rule_spot (rules.IndexNeeded place) = Some (At place)
 rule_spot (rules.NoTracks place) = Some (At place)
 rule_spot rules.Memory = None
 
--- the spot of an address
+-- the spot of a URL
 abbrev pub spot_told : AddressSpot → Spot
 spot_told (address.At place) = At place
 spot_told (address.Segment section track segment) = Segment section track segment
 
--- a track without segments is told as its first one
+-- a track without segments is reported as its first segment
 abbrev pub presentation_spot : PresentationFault → Option Spot
 presentation_spot (presentation.PeriodsDiffer place) = Some (At place)
 presentation_spot presentation.Limit = None
@@ -114,7 +114,7 @@ master_spot (master.NoTracks place) = Some (At place)
 master_spot (master.Limit place) = Some (At place)
 master_spot master.Memory = None
 
--- counted in the stream
+-- a position in the stream
 abbrev pub frame_spot : FrameFault → Option Spot
 frame_spot (frame.Header place) = Some (At place)
 frame_spot (frame.Cut place) = Some (At place)
@@ -171,15 +171,15 @@ words_of (refusal.Index index) = index_words index
 words_of (refusal.Times times) = times_words times
 words_of (refusal.Live fault) = live_words fault
 
--- what is told of a refusal, whatever is refused: its words, and where it stands, if that is told
+-- the report's text for an error, without the file: its code, and the position, if there is one
 unfoldable pub refusal_text : Refusal → List ℕ
 refusal_text refusal = words_of refusal ++ spot_text (spot_of refusal)
 
--- the refusal of a file, or of no file where it is named `-`
+-- the report's line for a rejected file; `-` stands for no file
 unfoldable pub refusal_line : (file : List ℕ) → Refusal → List ℕ
 refusal_line file refusal = codes "refused " ++ file ++ codes " " ++ refusal_text refusal ++ codes "\n"
 
--- ---- what is answered where memory is wanting, which tells nothing of the input
+-- ---- results, where out of memory says nothing about the input
 
 abbrev pub refused_in : Stop → Option Refusal
 refused_in (stop.Refused refusal) = Some refusal

@@ -1,4 +1,4 @@
--- The words of the report for each fault: the layer's word, the number and the name.
+-- The error code of the report for each fault: the layer's word, the number and the name.
 use Rattle.bridge_jobs.specs.declared.frame.FrameFault.TheVariants as frame
 use Rattle.mpd_tree.specs.declared.fault.TextFault.TheVariants as text
 use Rattle.mpd_profile.specs.declared.fault.RuleFault.TheVariants as rules
@@ -27,7 +27,7 @@ use Rattle.template_ids.specs.declared.fault.TemplateFault.{TemplateFault}
 use Rattle.timeline.specs.declared.fault.TimeFault.{TimeFault}
 use Rattle.presentation.specs.declared.fault.PresentationFault.{PresentationFault}
 
--- a fault of the outside and want of memory are no refusals, and have no words
+-- I/O errors and out of memory have no error code
 
 abbrev pub text_words : TextFault → List ℕ
 text_words (text.NotUtf8 place) = codes "text 1 NotUtf8"
@@ -83,7 +83,7 @@ time_words times.ListLength = codes "timeline 5 ListLength"
 time_words times.TimeWithoutTimeline = codes "timeline 6 TimeWithoutTimeline"
 time_words times.Memory = []
 
--- a fault of a layer inside has that layer's words
+-- a fault of an inner layer has that layer's code
 abbrev pub presentation_words : PresentationFault → List ℕ
 presentation_words (presentation.PeriodsDiffer place) = codes "presentation 1 PeriodsDiffer"
 presentation_words presentation.Limit = codes "presentation 2 Limit"
@@ -102,7 +102,7 @@ line_words (line.Attribute place) = codes "line 4 Attribute"
 line_words (line.DoubleAttribute place) = codes "line 5 DoubleAttribute"
 line_words line.Memory = []
 
--- the same of a fault of a layer inside
+-- the same for a fault of an inner layer
 abbrev pub media_words : MediaFault → List ℕ
 media_words (media.Line fault) = line_words fault
 media_words (media.NoTarget place) = codes "media 2 NoTarget"
@@ -164,7 +164,7 @@ update_words update.Ended = codes "session 9 Ended"
 update_words update.Window = codes "session 10 Window"
 update_words update.Uneven = codes "session 13 Uneven"
 
--- a rule that a round of live playlists breaks: the values that differ aren't told
+-- a rule that a snapshot of live playlists breaks: the values that differ aren't reported
 abbrev pub live_words : LiveFault → List ℕ
 live_words live.Ended = codes "live 1 Ended"
 live_words (live.ClockBack former now) = codes "live 2 ClockBack"

@@ -1,4 +1,4 @@
-// The URL of the folder that the store stands for, and those of its files.
+// The URL of the store's folder, and those of its files.
 ghost use Rattle.std.specs.Prelude.{◌≡◌, IfOk};
 ghost use Rattle.std.specs.List.{list_any};
 ghost use Rattle.url_parts.specs.Addresses.{is_tail};
@@ -8,8 +8,8 @@ use bridge_io::{Name, NoMemory};
 use std::alloc::Global;
 use url_parts::{Base, UrlFault};
 
-/// The URL of a file: the base's text followed by the file's name. There is none where the base isn't the address of a
-/// folder as the URL Standard writes it (4.5), or both together aren't an address.
+/// The URL of a file: the base's text followed by the file's name. `None` where the base isn't a folder's URL as the
+/// URL Standard serializes it (4.5), or both together aren't a valid URL.
 #[tactic(auto, unfolding(crate::specs::Bases::file_url))]
 pub fn file_url(alloc: Global, base: &str, file: &Name) -> Result<Option<Base>, NoMemory>
     ensures { IfOk result (λ url. url ≡ spec.file_url base.now file.now) }
@@ -22,8 +22,7 @@ pub fn file_url(alloc: Global, base: &str, file: &Name) -> Result<Option<Base>, 
     own_address(alloc, url.as_str())
 }
 
-/// The URL of the folder that a base stands for. There is none where the base isn't the address of a folder as the URL
-/// Standard writes it (4.5).
+/// The URL of a base's folder. `None` where the base isn't a folder's URL as the URL Standard serializes it (4.5).
 #[tactic(auto, unfolding(crate::specs::Bases::folder_url))]
 pub fn folder_url(alloc: Global, base: &str) -> Result<Option<Base>, NoMemory>
     ensures { IfOk result (λ url. url ≡ spec.folder_url base.now) }
@@ -54,7 +53,7 @@ fn has_tail(text: &[u8]) -> bool
     text.iter().any(|byte| matches!(*byte, b'?' | b'#'))
 }
 
-/// The address that a text is, where the URL Standard writes it so.
+/// A text as a URL, where it is its own serialization by the URL Standard.
 fn own_address(alloc: Global, text: &str) -> Result<Option<Base>, NoMemory>
     ensures { IfOk result (λ url. url ≡ spec.own_address text.now) }
 {

@@ -1,4 +1,4 @@
-// How a job ends whose files aren't read.
+// How a command ends whose files aren't read.
 ghost use Rattle.std.specs.Prelude.{◌≡◌, ◌⊎◌};
 ghost use Rattle.bridge_courses.specs.declared.status.Status.TheVariants as status;
 ghost use Rattle.bridge_courses.specs.Executions.{status_of};
@@ -11,7 +11,7 @@ use bridge_courses::{Ending, Verdict};
 use bridge_io::NoMemory;
 use std::alloc::Global;
 
-/// How a run ends whose input is refused, or no file of it where it is named `-`.
+/// How a run ends whose input file is rejected; `-` stands for no file.
 pub fn refused(alloc: Global, file: &str, refusal: Refusal) -> Ending
     ensures line { IsRefusal (refusal_line file.now refusal) result }
     ensures status { (status_of result ≡ status.Refused) ⊎ (status_of result ≡ status.Memory) }

@@ -1,4 +1,4 @@
-// The words of the report for each fault: the layer's word, the number and the name.
+// The error code of the report for each fault: the layer's word, the number and the name.
 ghost use Rattle.std.specs.Prelude.{◌≡◌};
 ghost use Rattle.bridge_report.specs.Words as spec;
 
@@ -15,7 +15,7 @@ use template_ids::TemplateFault;
 use timeline::TimeFault;
 use url_parts::UrlFault;
 
-/// Those of a text's fault. Want of memory has none.
+/// That of a text's fault. Empty for out of memory.
 pub fn text_words(fault: TextFault) -> &'static str
     ensures { result.now ≡ spec.text_words fault }
 {
@@ -35,7 +35,7 @@ pub fn text_words(fault: TextFault) -> &'static str
     }
 }
 
-/// Those of a fault against the rules of an MPD. Want of memory has none.
+/// That of a fault against the rules of an MPD. Empty for out of memory.
 pub fn rule_words(fault: RuleFault) -> &'static str
     ensures { result.now ≡ spec.rule_words fault }
 {
@@ -58,8 +58,7 @@ pub fn rule_words(fault: RuleFault) -> &'static str
     }
 }
 
-/// Those of a presentation's fault: the words of the layer inside, where it is a fault of that one. Want of memory has
-/// none.
+/// That of a presentation's fault, or of the inner layer's fault. Empty for out of memory.
 pub fn presentation_words(fault: PresentationFault) -> &'static str
     ensures { result.now ≡ spec.presentation_words fault }
 {
@@ -126,8 +125,7 @@ fn line_words(fault: LineFault) -> &'static str
     }
 }
 
-/// Those of a media playlist's fault: the words of the layer inside, where it is a fault of that one. Want of memory has
-/// none.
+/// That of a media playlist's fault, or of the inner layer's fault. Empty for out of memory.
 pub fn media_words(fault: MediaFault) -> &'static str
     ensures { result.now ≡ spec.media_words fault }
 {
@@ -149,7 +147,7 @@ pub fn media_words(fault: MediaFault) -> &'static str
     }
 }
 
-/// Those of a master's fault: the words of the layer inside, where it is a fault of that one. Want of memory has none.
+/// That of a master playlist's fault, or of the inner layer's fault. Empty for out of memory.
 pub fn master_words(fault: MasterFault) -> &'static str
     ensures { result.now ≡ spec.master_words fault }
 {
@@ -170,7 +168,7 @@ pub fn master_words(fault: MasterFault) -> &'static str
     }
 }
 
-/// Those of a fault of playlists that give no presentation. Want of memory has none.
+/// That of a fault of playlists that give no presentation. Empty for out of memory.
 pub fn hls_words(fault: HlsFault) -> &'static str
     ensures { result.now ≡ spec.hls_words fault }
 {
@@ -186,7 +184,7 @@ pub fn hls_words(fault: HlsFault) -> &'static str
     }
 }
 
-/// Those of a stream's fault. A fault of the input and want of memory have none.
+/// That of a stream's fault. Empty for an I/O error and out of memory.
 pub fn frame_words(fault: FrameFault) -> &'static str
     ensures { result.now ≡ spec.frame_words fault }
 {
@@ -198,7 +196,7 @@ pub fn frame_words(fault: FrameFault) -> &'static str
     }
 }
 
-/// Those of a rule of a followed presentation.
+/// That of a rule of a followed presentation.
 pub fn update_words(fault: UpdateFault) -> &'static str
     ensures { result.now ≡ spec.update_words fault }
 {
@@ -217,7 +215,7 @@ pub fn update_words(fault: UpdateFault) -> &'static str
     }
 }
 
-/// Those of a rule of followed playlists. Want of memory has none.
+/// That of a rule of followed playlists. Empty for out of memory.
 pub fn live_words(fault: LiveFault) -> &'static str
     ensures { result.now ≡ spec.live_words fault }
 {

@@ -1,4 +1,4 @@
-// Why media files with an index inside are refused.
+// Why media files with a `sidx` are rejected.
 ghost use Rattle.std.specs.Prelude.{◌≡◌};
 ghost use Rattle.bridge_report.specs.Indexes as spec;
 
@@ -6,11 +6,11 @@ use crate::spot::Spot;
 use box_reader::BoxFault;
 use layer_faults::index::FileFault;
 
-/// Why an MPD and its media files, with an index inside, are refused beside what an MPD alone is refused for (ISO/IEC 23009-1,
+/// Why an MPD and its media files with a `sidx` are rejected, apart from the errors of the MPD itself (ISO/IEC 23009-1,
 /// 5.3.9.2).
 #[derive(Clone, Copy, PartialEq, Eq)]
 pub enum IndexRefusal {
-    /// Of the MPD: the address of a media file isn't that of a file in the store's folder.
+    /// Of the MPD: the URL of a media file isn't that of a file in the store's folder.
     OutsideBase,
     /// Of the MPD: an index range has more than 8,388,608 bytes.
     TooLong,
@@ -18,7 +18,7 @@ pub enum IndexRefusal {
     File(FileFault),
 }
 
-/// The words of the report.
+/// The error code of the report.
 pub(crate) fn index_words(refusal: IndexRefusal) -> &'static str
     ensures { result.now ≡ spec.index_words refusal }
 {
@@ -45,7 +45,7 @@ fn file_words(fault: FileFault) -> &'static str
     }
 }
 
-/// Where it stands in a media file, if that is told.
+/// The position in a media file, if there is one.
 pub(crate) fn index_spot(refusal: IndexRefusal) -> Option<Spot>
     ensures { result ≡ spec.index_spot refusal }
 {

@@ -2,20 +2,20 @@
 ghost use Rattle.bridge_report.specs.Laws.{CommandsReadFirst, ReadFaultOfCommandsKeepsFiles, FilesAreOfAccepted, FileIsOfAccepted};
 ghost use Rattle.bridge_report.specs.Laws.{MirrorsHaveOneCourse};
 
-/// A command reads all before it writes, so that a run of it that ends at a read fault wrote nothing.
+/// A command reads everything before it writes, so that a run that ends with a read error wrote nothing.
 pub fn commands_read_before_they_write()
     ensures first { CommandsReadFirst }
     ensures read_fault { ReadFaultOfCommandsKeepsFiles }
 {}
 
-/// After some frames of a followed presentation the files are those that are written for the frames accepted among them, and
-/// one that is written again for each has the text of what these left.
+/// After some update frames of a followed presentation the files are those that are written for the accepted ones, and one
+/// that is written again for each has the text of the state after these.
 pub fn accepted_frames_make_the_files<S, X>()
     ensures files { FilesAreOfAccepted S X }
     ensures file { FileIsOfAccepted S X }
 {}
 
-/// Where what is told of a history is told of what the history left, both have one course.
+/// Where a definition over histories and one over their states agree, both have the same course.
 pub fn one_course_for_both_tellings<S, T, X>()
     ensures { MirrorsHaveOneCourse S T X }
 {}

@@ -1,4 +1,4 @@
-//! Why the input of a job is refused, the lines that tell it, and how a command ends.
+//! Why the input of a command is rejected, the report's lines for it, and how a command ends.
 #![tactic(auto)]
 
 mod base;

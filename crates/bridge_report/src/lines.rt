@@ -1,4 +1,4 @@
-// The report's lines in the middle of a run: those of frames, and the last one of their stream.
+// The report's lines during a run: those of update frames, and the last one of their stream.
 ghost use Rattle.std.specs.Prelude.{◌≡◌, ◌⊎◌, ◌≤◌, ◌++◌, IfOk, IfErr, OnOk};
 ghost use Rattle.std.specs.String.{string_bytes};
 ghost use Rattle.bridge_io.specs.Outside.{Appends};
@@ -12,7 +12,7 @@ use bridge_io::{NoMemory, Sink, Text};
 use std::alloc::{AllocError, Global};
 use std::fmt::Write;
 
-/// Tells a line in the middle of a run. Where that fails, no more is told: a front of the line may be.
+/// Reports a line during a run. Where that fails, nothing more is reported; a prefix of the line may be.
 pub fn tell_line<P: Sink>(line: &Text, report: &mut P) -> Result<(), Ending>
     ensures ok { OnOk result (Appends line.now (P.written report.old) (P.written report.new)) }
     ensures err { IfErr result (λ told. IsCutOff line.now told (P.faults report.old) (P.faults report.new) (P.written report.old)
@@ -25,8 +25,8 @@ pub fn tell_line<P: Sink>(line: &Text, report: &mut P) -> Result<(), Ending>
     }
 }
 
-/// The line of an accepted frame, `frame <i> ok appended=<n>`: its place in the stream, counted from 0, and how many segments it
-/// appended.
+/// The line of an accepted update frame, `frame <i> ok appended=<n>`: its index in the stream, counted from 0, and how many
+/// segments it appended.
 #[tactic(auto, unfolding(crate::specs::Following::accepted_line))]
 pub fn frame_accepted(alloc: Global, frame: u64, appended: u64) -> Result<Text, NoMemory>
     ensures { IfOk result (λ line. line ≡ spec.accepted_line frame appended) }
@@ -34,7 +34,8 @@ pub fn frame_accepted(alloc: Global, frame: u64, appended: u64) -> Result<Text, 
     Ok(Text::from(format!(in alloc; "frame {frame} ok appended={appended}\n")?))
 }
 
-/// The line of a refused frame, `frame <i> refused <why>`: its place in the stream, counted from 0, and the refusal's text.
+/// The line of a rejected update frame, `frame <i> refused <why>`: its index in the stream, counted from 0, and the error's
+/// text.
 #[tactic(auto, unfolding(crate::specs::Following::refused_frame))]
 pub fn frame_refused(alloc: Global, frame: u64, refusal: &str) -> Result<Text, NoMemory>
     ensures { IfOk result (λ line. line ≡ spec.refused_frame frame refusal.now) }
@@ -42,7 +43,7 @@ pub fn frame_refused(alloc: Global, frame: u64, refusal: &str) -> Result<Text, N
     Ok(Text::from(format!(in alloc; "frame {frame} refused {refusal}\n")?))
 }
 
-/// How a run ends where the stream is read to its end: `done frames=<n> accepted=<n>`, unless memory is wanting for it.
+/// How a run ends where the stream is read to its end: `done frames=<n> accepted=<n>`, unless memory runs out for it.
 pub fn stream_done(alloc: Global, frames: u64, accepted: u64) -> Ending
     ensures { (result ≡ ending.Ended verdict.Done (spec.stream_line frames accepted)) ⊎ (result ≡ ending.Memory) }
 {

@@ -1,4 +1,4 @@
-// The files of a job.
+// The files of a command.
 ghost use Rattle.std.specs.Prelude.{◌≡◌, ◌≢◌, IfOk, IfSome};
 ghost use Rattle.bridge_io.specs.Answer.{Gives};
 ghost use Rattle.hls_media.specs.Laws.{IsBounded};
@@ -11,22 +11,22 @@ use hls_media::{Media, MediaFault, read_media, what_is_read_is_bounded};
 use std::alloc::Global;
 use url_parts::Base;
 
-/// How many bytes a manifest has at most.
+/// The most bytes of a manifest.
 const MANIFEST_LIMIT: u64 = 8_388_608;
 
-/// Why the files of a job aren't read.
+/// Why the files of a command aren't read.
 #[derive(Drop)]
 pub enum Halt {
-    /// The file of this name is refused.
+    /// The file of this name is rejected.
     Refused(Text, Refusal),
     /// A read failed.
     ReadFault,
-    /// Memory is wanting, which tells nothing of the files.
+    /// Out of memory, which says nothing about the files.
     Memory,
 }
 
 impl Halt {
-    /// A file is refused, unless memory is wanting for its name.
+    /// A file is rejected, unless memory runs out for its name.
     pub fn refused(alloc: Global, file: &Name, refusal: Refusal) -> Halt
         ensures told { IfSome (spec.halted result) (λ told. told ≡ (file.now, refusal)) }
         ensures no_fault { result ≢ ReadFault }
@@ -63,8 +63,7 @@ pub fn content_of<F: Store>(alloc: Global, store: &mut F, file: &Name) -> Result
     }
 }
 
-/// The media playlist of a file that is at this URL. [`Halt::ReadFault`] comes only where the store's count of failed reads
-/// rose.
+/// The media playlist of a file with this URL. [`Halt::ReadFault`] comes only where the store's count of failed reads rose.
 #[tactic(auto, unfolding(crate::specs::Reading::media_at))]
 pub fn media_at<F: Store>(
     alloc: Global,
@@ -79,7 +78,7 @@ pub fn media_at<F: Store>(
     media_in(alloc, file, url, bytes.as_slice())
 }
 
-/// The media playlist that a file's bytes are.
+/// A file's bytes as a media playlist.
 fn media_in(alloc: Global, file: &Name, url: &Base, bytes: &[u8]) -> Result<Media, Halt>
     ensures media { Gives (λ media. media) spec.halted result (spec.media_in file.now url.now bytes.now) }
     ensures bounded { IfOk result IsBounded }

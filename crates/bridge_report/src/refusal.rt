@@ -1,4 +1,4 @@
-// Why the input of a job is refused, and the line of the report that tells it.
+// Why the input of a command is rejected, and the report's line for it.
 ghost use Rattle.std.specs.Prelude.{◌≡◌, ◌++◌, IfOk};
 ghost use Rattle.bridge_report.specs.Refusals as spec;
 
@@ -21,10 +21,10 @@ use mpd_tree::TextFault;
 use presentation::PresentationFault;
 use std::alloc::Global;
 
-/// Why the input of a job is refused.
+/// Why the input of a command is rejected.
 #[derive(Clone, Copy, PartialEq, Eq)]
 pub enum Refusal {
-    /// The base isn't the URL of a folder as the URL Standard writes it, or too long for the file's URL.
+    /// The base isn't a folder's URL as the URL Standard serializes it, or it is too long for the file's URL.
     Base,
     /// The file has too many bytes: the first one past the limit.
     TooLong(Place),
@@ -36,38 +36,38 @@ pub enum Refusal {
     Rules(RuleFault),
     /// The MPD gives no presentation.
     Presentation(PresentationFault),
-    /// The file is no media playlist of the profile.
+    /// The file isn't a media playlist of the profile.
     Media(MediaFault),
-    /// The file is no master of the profile.
+    /// The file isn't a master playlist of the profile.
     Master(MasterFault),
-    /// A media playlist of the master lies in no file under the base.
+    /// A media playlist of the master isn't a file under the base.
     OutsideBase,
     /// The master's playlists have more than 500,000 segments together.
     TooManySegments,
     /// The master's playlists give no presentation.
     Hls(HlsFault),
-    /// The MPD is live, where a static one is wanted (ISO/IEC 23009-1, 5.3.1.2).
+    /// The MPD is dynamic, where a static one is required (ISO/IEC 23009-1, 5.3.1.2).
     NotStatic,
-    /// The stream of frames isn't whole. A fault of the input and want of memory are no refusals.
+    /// The stream of update frames isn't valid. I/O errors and out of memory don't occur here.
     Frame(FrameFault),
-    /// The frame is a tick or a reset, and no MPD was accepted before.
+    /// The update frame is a tick or a reset, and no MPD was accepted before.
     NotOpen,
-    /// The frame breaks a rule of a followed presentation.
+    /// The update frame breaks a rule of a followed presentation.
     Session(UpdateFault),
-    /// Media files with an index inside give no presentation.
+    /// Media files with a `sidx` give no presentation.
     Index(IndexRefusal),
-    /// Media files tell no times.
+    /// Media files give no decode times.
     Times(TimesRefusal),
-    /// A round of live playlists may not follow those that were accepted.
+    /// A snapshot of live playlists can't follow those that were accepted.
     Live(LiveFault),
 }
 
-/// Why the input of a job isn't read.
+/// Why the input of a command isn't read.
 #[derive(Clone, Copy, PartialEq, Eq)]
 pub enum Stop {
-    /// It is refused.
+    /// It is rejected.
     Refused(Refusal),
-    /// Memory is wanting, which tells nothing of the input.
+    /// Out of memory, which says nothing about the input.
     Memory,
 }
 
@@ -112,7 +112,7 @@ impl Stop {
         }
     }
 
-    /// Why a round of live playlists isn't taken.
+    /// Why a snapshot of live playlists isn't accepted.
     pub fn of_live(fault: LiveFault) -> Stop
         ensures { result ≡ spec.stop_of_live fault }
     {
@@ -123,7 +123,7 @@ impl Stop {
     }
 }
 
-/// The line of the report for the refusal of a file, or of no file where it is named `-`.
+/// The report's line for a rejected file; `-` stands for no file.
 #[tactic(auto, unfolding(crate::specs::Refusals::refusal_line))]
 pub fn refusal_line(alloc: Global, file: &str, refusal: Refusal) -> Result<Text, NoMemory>
     ensures { IfOk result (λ line. line ≡ spec.refusal_line file.now refusal) }
@@ -133,8 +133,8 @@ pub fn refusal_line(alloc: Global, file: &str, refusal: Refusal) -> Result<Text,
     Ok(Text::from(format!(in alloc; "refused {file} {text}\n")?))
 }
 
-/// What the report tells of a refusal, whatever is refused: the layer's word, the number and the name, and where it stands, if
-/// that is told.
+/// The report's text for an error, without the file: the layer's word, the number and the name, and the position, if there is
+/// one.
 #[tactic(auto, unfolding(crate::specs::Refusals::refusal_text))]
 pub fn refusal_text(alloc: Global, refusal: Refusal) -> Result<Text, NoMemory>
     ensures { IfOk result (λ text. text ≡ spec.refusal_text refusal) }
@@ -189,7 +189,7 @@ fn words(refusal: Refusal) -> &'static str
     }
 }
 
-/// Where it stands, if that is told.
+/// The position, if there is one.
 fn spot(refusal: Refusal) -> Option<Spot>
     ensures { result ≡ spec.spot_of refusal }
 {
@@ -256,7 +256,7 @@ fn rule_spot(fault: RuleFault) -> Option<Spot>
     }
 }
 
-/// A track without segments is told as its first one.
+/// A track without segments is reported as its first segment.
 fn presentation_spot(fault: PresentationFault) -> Option<Spot>
     ensures { result ≡ spec.presentation_spot fault }
 {
@@ -328,7 +328,7 @@ fn master_spot(fault: MasterFault) -> Option<Spot>
     }
 }
 
-/// A place that is counted in the stream.
+/// A position in the stream.
 fn frame_spot(fault: FrameFault) -> Option<Spot>
     ensures { result ≡ spec.frame_spot fault }
 {

@@ -1,10 +1,10 @@
-// Where a refusal stands.
+// The position of an error.
 ghost use Rattle.std.specs.Prelude.{◌≡◌};
 ghost use Rattle.bridge_report.specs.Refusals.{spot_told};
 
 use bridge_io::Place;
 
-/// Where a refusal stands.
+/// The position of an error.
 #[derive(Clone, Copy, Debug, PartialEq, Eq)]
 pub enum Spot {
     /// At a byte, counted from 0, of a file that has no lines.
@@ -13,17 +13,17 @@ pub enum Spot {
     At(Place),
     /// At a listed segment, counted from 0.
     Segment {
-        /// The section's place.
+        /// The section's index.
         section: usize,
-        /// The track's place.
+        /// The track's index.
         track: usize,
-        /// The segment's place among those that are listed there.
+        /// The segment's index among those that are listed there.
         segment: u64,
     },
 }
 
 impl Spot {
-    /// The spot of an address.
+    /// The spot of a URL.
     pub fn of(spot: presentation::Spot) -> Spot
         ensures { result ≡ spot_told spot }
     {

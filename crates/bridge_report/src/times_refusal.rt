@@ -1,4 +1,4 @@
-// Why media files tell no times.
+// Why media files give no decode times.
 ghost use Rattle.std.specs.Prelude.{◌≡◌};
 ghost use Rattle.bridge_report.specs.FileTimes as spec;
 
@@ -6,10 +6,11 @@ use crate::spot::Spot;
 use box_reader::BoxFault;
 use layer_faults::times::FileFault;
 
-/// Why a presentation and its media files are refused where the files' own times are wanted (ISO/IEC 14496-12, 8.4.2 and 8.8.12).
+/// Why a presentation and its media files are rejected where the files' decode times are needed (ISO/IEC 14496-12, 8.4.2 and
+/// 8.8.12).
 #[derive(Clone, Copy, PartialEq, Eq)]
 pub enum TimesRefusal {
-    /// Of the manifest: the address of a media file isn't that of a file in the store's folder.
+    /// Of the manifest: the URL of a media file isn't that of a file in the store's folder.
     OutsideBase,
     /// Of the manifest: all Periods together last 10^19 ns or more.
     Range,
@@ -17,7 +18,7 @@ pub enum TimesRefusal {
     File(FileFault),
 }
 
-/// The words of the report.
+/// The error code of the report.
 pub(crate) fn times_words(refusal: TimesRefusal) -> &'static str
     ensures { result.now ≡ spec.times_words refusal }
 {
@@ -43,7 +44,7 @@ fn file_words(fault: FileFault) -> &'static str
     }
 }
 
-/// Where it stands in a media file, if that is told.
+/// The position in a media file, if there is one.
 pub(crate) fn times_spot(refusal: TimesRefusal) -> Option<Spot>
     ensures { result ≡ spec.times_spot refusal }
 {

@@ -5,14 +5,14 @@ use http_header::HeaderValueError;
 use std::alloc::{AllocError, Global};
 use std::{env, io};
 
-/// The line for words that are wrong.
+/// The line for a usage error.
 pub const USAGE: &str =
     "usage: bridge_serve --base=<url> [--index=yes] [--now=<instant>] [--cache-control=<value>]";
 
-/// What `--version` tells.
+/// What `--version` prints.
 pub const VERSION: &str = "bridge_serve 1.0.0";
 
-/// What `--help` tells.
+/// What `--help` prints.
 pub const HELP: &str =
     "usage: bridge_serve --base=<url> [--index=yes] [--now=<instant>] [--cache-control=<value>]
 
@@ -31,14 +31,14 @@ Answers the HTTP/1.1 requests on standard input, on standard output, until the c
 
 A manifest that is rejected is answered by 422 and the line that bridge prints.";
 
-/// What the words ask for.
+/// What the command line asks for.
 #[derive(Drop)]
 pub enum Command {
-    /// To tell how it is used.
+    /// To print the help.
     Help,
-    /// To tell the version.
+    /// To print the version.
     Version,
-    /// Nothing that is known.
+    /// A usage error.
     Wrong,
     /// To answer requests.
     Serve(Options),
@@ -47,17 +47,17 @@ pub enum Command {
 /// How requests are answered.
 #[derive(Drop)]
 pub struct Options {
-    /// The URL of the current folder.
+    /// The URL of the current directory.
     pub base: Text,
-    /// Whether the media files of MPDs have an index inside.
+    /// Whether the media files of MPDs have a `sidx`.
     pub indexed: bool,
-    /// The instant of live MPDs.
+    /// The time at which live MPDs are read.
     pub now: Option<Text>,
-    /// How caches may use what is sent.
+    /// How caches may use the responses: the value of `Cache-Control`.
     pub cache: HeaderValue,
 }
 
-/// What the words of the command line ask for.
+/// Parses the command line.
 pub fn asked(rt: &HostRuntime) -> io::Result<Command> {
     let alloc = rt.alloc();
     let mut given = Given::default();
@@ -75,7 +75,7 @@ pub fn asked(rt: &HostRuntime) -> io::Result<Command> {
     Ok(given.command())
 }
 
-/// The words so far.
+/// The options so far.
 #[derive(Default, Drop)]
 struct Given {
     base: Option<Text>,
@@ -85,7 +85,7 @@ struct Given {
 }
 
 impl Given {
-    /// Takes a word, and answers whether it is an option that wasn't given before.
+    /// Reads a word, and returns whether it is an option that wasn't given before.
     fn take(&mut self, alloc: Global, word: &str) -> Result<bool, AllocError> {
         let Some((option, value)) = word.split_once('=') else {
             return Ok(false);
@@ -126,7 +126,7 @@ impl Given {
     }
 }
 
-/// Sets a value, and answers whether there was none.
+/// Sets a value, and returns whether there was none.
 fn first<T: Drop>(place: &mut Option<T>, value: T) -> bool {
     let is_first = place.is_none();
     *place = Some(value);

@@ -1,7 +1,7 @@
-//! Answers the HTTP/1.1 requests on standard input with the files that are made of the manifests below the current folder:
-//! `GET /a/b.mpd/master.m3u8` with the master of `a/b.mpd`, `GET /a/b.mpd/t0.m3u8` with the playlist of its first track,
-//! `GET /a/b.m3u8/manifest.mpd` with the MPD of the master `a/b.m3u8` and its playlists, and `POST /hls` with a file of the MPD
-//! that is its body.
+//! Answers the HTTP/1.1 requests on standard input with the files that are made from the manifests below the current directory:
+//! `GET /a/b.mpd/master.m3u8` with the multivariant playlist (master) of `a/b.mpd`, `GET /a/b.mpd/t0.m3u8` with the media
+//! playlist of its first track, `GET /a/b.m3u8/manifest.mpd` with the MPD of the master playlist `a/b.m3u8` and its media
+//! playlists, and `POST /hls` with a file of the MPD that is its body.
 #![tactic(auto)]
 
 ghost use Rattle.std.specs.Prelude.{◌≡◌, ◌<◌};
@@ -21,13 +21,13 @@ use std::marker::Brand;
 use std::process::ExitCode;
 use std::sync::ledger::Blank;
 
-/// The status where the words are none that are known.
+/// The status of a usage error.
 const WRONG_WORDS: u8 = 2;
 
-/// The status where the connection failed.
+/// The status of a failed connection.
 const FAILED: u8 = 1;
 
-/// How many bytes a manifest that is posted has at most, as any.
+/// The most bytes of a posted manifest, as of any.
 const MANIFEST_LIMIT: usize = 8_388_608;
 
 fn main(rt: HostRuntime) -> ExitCode {

@@ -12,10 +12,10 @@ segments_text segments left_out = decimal segments ++ codes " left-out=" ++ deci
 unfoldable pub counts_text : (word : List ℕ) (tracks sections segments left_out : ℕ) → List ℕ
 counts_text word tracks sections segments left_out = tracks_text word tracks sections ++ segments_text segments left_out
 
--- how many tracks, sections and listed segments there are, and how many were left out
+-- how many tracks, sections and listed segments there are, and how many were dropped
 abbrev pub counts_line : (word : List ℕ) → Presented → List ℕ
 counts_line word p = counts_text word (length p.tracks) (length p.sections) (count_of_all p) p.left_out
 
--- the line of a job that is done
+-- the line of a successful command
 abbrev pub done_line : Presented → List ℕ
 done_line p = counts_line (codes "done") p

@@ -1,4 +1,4 @@
--- How a command ends, and what it leaves of what it met.
+-- How a command ends, and its effects.
 use Rattle.bridge_courses.specs.declared.ending.Ending.TheVariants as ending
 use Rattle.bridge_courses.specs.declared.status.Status.TheVariants as status
 use Rattle.bridge_courses.specs.declared.status.Verdict.TheVariants as verdict
@@ -10,9 +10,9 @@ use Rattle.bridge_courses.specs.{declared.ending.Ending.Ending, declared.status.
 use Rattle.bridge_report.specs.{declared.reading.Halt.Halt, Outcomes.{Outcome, Ends, Writes, IsEnding, IsHalt, IsRefusal, base_refused}}
 use Rattle.bridge_report.specs.{Outcomes.course_by, Reading.Named, Refusals.refusal_line}
 
--- ---- what a command leaves
+-- ---- effects of a command
 
--- what a command meets: the files that the store tells, its counts of faults, and how many segments were made
+-- the environment of a command: the store's files, its counts of faults, and how many segments were made
 pub record Surroundings : Type 0 where
   pub files : Option Files
   pub read_faults : ℕ
@@ -24,7 +24,7 @@ around store at made =
     record { files = store.files at; read_faults = store.read_faults at; write_faults = store.write_faults at; made = made }
 
 -- The work of a run ends as its outcome says, where that is known: with its verdict and its files, and no segment made where it
--- counts them. A fault has its cause, whatever is known, and no count of faults falls.
+-- counts them. An I/O error has its cause, whatever is known, and no count of faults falls.
 pub record EndsAs (outcome : Option Outcome) (told : Ending) (before after : Surroundings) : Type 0 where
   pub ending : ForSome outcome (λ o. IsEnding o told before.files after.files)
   pub made : ForSome outcome (λ o. IsTrue (course_by o).counts → after.made ≡ before.made)
@@ -33,7 +33,7 @@ pub record EndsAs (outcome : Option Outcome) (told : Ending) (before after : Sur
   pub reads : before.read_faults ≤ after.read_faults
   pub writes : before.write_faults ≤ after.write_faults
 
--- The work of a job ends so, and it is a job.
+-- The work of a command ends like this, and not with a usage error.
 pub record JobEndsAs (outcome : Option Outcome) (told : Ending) (before after : Surroundings) : Type 0 where
   pub ends : EndsAs outcome told before after
   pub job : status_of told ≡ status.Words → ⊥
@@ -50,19 +50,19 @@ pub record NeverWrites (told : Ending) (before after : ℕ) : Type 0 where
 
 -- ---- outcomes
 
--- a job whose files have places under the base, or whose base is refused
+-- the outcome of a command whose files have locations under the base, or whose base is rejected
 abbrev pub placed : {P : Type 0} → (P → Option Outcome) → Option P → Option Outcome
 placed at None = Some base_refused
 placed at (Some place) = at place
 
--- what is read is written as files, with a line that tells it; or one of the files that are read is refused
+-- what was read is written as files, with a report line; or one of the files is rejected
 abbrev pub outcome_written : {Y : Type 0} → (files : Y → List (List ℕ × List ℕ)) (line : Y → List ℕ) → Result Y Named → Outcome
 outcome_written files line (Ok y) = Writes (files y) (line y) true
 outcome_written files line (Err named) = Ends verdict.Refused (refusal_line named.0 named.1) true false
 
 -- ---- how it ends
 
--- where the files of a job lie, or a base that is refused is told, or memory is wanting
+-- the locations of a command's files; or a rejected base is reported, or memory ran out
 abbrev pub IsUnplaced : {P : Type 0} → Option P → Ending → Type 0
 IsUnplaced place told = ((place ≡ None) × IsRefusal (refusal_line (codes "-") refusal.Base) told) ⊎ (told ≡ ending.Memory)
 
@@ -70,12 +70,12 @@ abbrev pub IsPlaced : {P : Type 0} → Option P → Result P Ending → Type 0
 IsPlaced place (Ok found) = place ≡ Some found
 IsPlaced place (Err told) = IsUnplaced place told
 
--- what was read is told, or why it wasn't read
+-- the report on what was read, or why it wasn't read
 abbrev pub IsTold : Result (Verdict × List ℕ) Halt → Ending → Type 0
 IsTold (Ok what) told = told ≡ ending.Ended what.0 what.1
 IsTold (Err halt) told = IsHalt halt told
 
--- a line is told of files that are written, or why they aren't
+-- the line for written files, or why they aren't written
 abbrev pub IsWritten : (line : List ℕ) → Result (Unit {0}) OutFault → Ending → Type 0
 IsWritten line (Ok tt) told = told ≡ ending.Ended verdict.Done line
 IsWritten line (Err out.WriteFault) told = told ≡ ending.WriteFault

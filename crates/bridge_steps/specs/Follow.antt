@@ -1,4 +1,4 @@
--- The run of what is followed: a step for each frame of a stream, and an end.
+-- The run of following: a step for each update frame of a stream, and an end.
 use Rattle.bridge_jobs.specs.declared.frame.FrameFault.TheVariants as fault
 use Rattle.bridge_courses.specs.declared.ending.Ending.TheVariants as ending
 use Rattle.bridge_report.specs.declared.refusal.Refusal.TheVariants as refusal
@@ -12,7 +12,7 @@ use Rattle.bridge_courses.specs.Steps.{Outside, Work, outside_of}
 use Rattle.bridge_report.specs.{Following.{Followed, course_from}, Outcomes.{IsRefusal, base_refused, course_by}, Refusals.refusal_line}
 use Rattle.bridge_steps.specs.{declared.run.Following.Following, Streams.Stream}
 
--- a frame is accepted: what it leaves, the number in its line, and how many segments are made
+-- a frame is accepted: the state after it, the number in its line, and how many segments are made
 pub record Accepts {S X : Type 0} (f : Followed S X) (s : S) (x : X) (s' : S) (n m m' : ℕ) : Type 0 where
   pub accepted : f.refusal s x ≡ None
   pub after : s' ≡ f.after s x
@@ -21,28 +21,28 @@ pub record Accepts {S X : Type 0} (f : Followed S X) (s : S) (x : X) (s' : S) (n
 
 -- ---- the course
 
--- a stream that isn't whole is refused as no file
+-- a stream that isn't valid is rejected without a file name
 abbrev pub fault_line : FrameFault → List ℕ
 fault_line fault = refusal_line (codes "-") (refusal.Frame fault)
 
--- after some frames, of which some are accepted, the course of the stream that is left
+-- the course of the remaining stream, after some frames, some of which were accepted
 abbrev pub course_of : {S X : Type 0} → Followed S X → S → (frames accepted : ℕ) → Stream X → Course
 course_of f s i a stream = course_from f s i a stream.0 (option_map fault_line stream.1)
 
--- the course of a stream of bytes, where this was left before
+-- the course of a stream of bytes, from a state
 abbrev pub follow_course : {S X : Type 0} → Followed S X → (stream : FramePos → List ℕ → Stream X) → S → (bytes : List ℕ) → Course
 follow_course f stream s bytes = course_of f s 0 0 (stream start bytes)
 
--- what is left of it, where a run has come so far and these bytes are left
+-- the rest of it, given the state of a run and the remaining bytes
 abbrev pub rest_course : {S X : Type 0} → Followed S X → (stream : FramePos → List ℕ → Stream X) → Following S → (bytes : List ℕ) → Course
 rest_course f stream run bytes = course_of f run.live run.at.frames run.accepted (stream run.at bytes)
 
--- a base that is refused is told whatever the input tells
+-- a rejected base is reported whatever the input contains
 abbrev pub course_placed : {P : Type 0} → (P → Option Course) → Option P → Option Course
 course_placed at None = Some (course_by base_refused)
 course_placed at (Some place) = at place
 
--- a run that goes on, by how many frames were accepted and what is known of what these left
+-- a run in progress, with the number of accepted frames and the invariant of the state
 pub record IsGoing {S : Type 0} (accepted_of : S → ℕ) (is_kept : S → Type 0) (run : Following S) : Type 0 where
   pub at : IsFramePos run.at
   pub count : accepted_of run.live ≡ run.accepted
@@ -56,13 +56,13 @@ IsBroken fault.Fault told = told ≡ ending.ReadFault
 IsBroken fault.Memory told = told ≡ ending.Memory
 IsBroken f told = IsRefusal (fault_line f) told
 
--- some lines were told, or a front of one
+-- some lines were reported, or a prefix of one
 abbrev pub Grows : (before after : Option (List ℕ)) → Type 0
 Grows before after = (lines : List ℕ) × Appends lines before after
 
--- ---- what is met
+-- ---- the environment
 
--- what a run meets: of the input, the store and the report, and how many segments were made
+-- the environment of a run: the input, the store and the report, and how many segments were made
 abbrev pub world_of : {I F P : Type 0} → Source I → Store F → Sink P → I → F → P → (made : ℕ) → World
 world_of source store sink input files report made = record {
   files = store.files files;
@@ -74,7 +74,7 @@ world_of source store sink input files report made = record {
   made = made;
 }
 
--- the same of a frame that is read, since the input is left then
+-- the same for a frame that was read: the input isn't touched
 abbrev pub beside_input : {F P : Type 0} → Store F → Sink P → F → P → (made : ℕ) → World
 beside_input store sink files report made = record {
   files = store.files files;
@@ -90,7 +90,7 @@ beside_input store sink files report made = record {
 abbrev pub outside_at : {F P : Type 0} → Store F → Sink P → F → P → Outside
 outside_at store sink files report = outside_of (beside_input store sink files report 0)
 
--- A run of what the input tells ends so: as its course, where that is known. It tells lines, and no count of faults falls.
+-- A run ends as its course says, where that is known. It reports lines, and no count of faults falls.
 pub record RunsAs (course : Option Course) (end : Ending) (before after : World) : Type 0 where
   pub work : ForSome course (λ course. Work course end before after)
   pub never_falls : NeverFalls before after

@@ -1,4 +1,4 @@
--- What is told of the tracks and sections of a presentation, line by line.
+-- The report on the tracks and sections of a presentation, line by line.
 use Rattle.std.specs.Prelude.{ℕ, ◌^◌, List, [], ◌++◌, length, codes, decimal, flat_map, slice_get, Option, Some, None}
 use Rattle.std.specs.Option.{option_map_or}
 use Rattle.bridge_io.specs.{declared.media.Kind.Kind, declared.media.Kind.TheVariants.{Video, Audio, Text}}
@@ -21,7 +21,7 @@ entry_text track kind language section segments =
     codes "track " ++ decimal track ++ codes " " ++ kind ++ codes " " ++ language ++ codes " section " ++ decimal section
     ++ codes " segments=" ++ decimal segments ++ codes " length="
 
--- a track in a section: how many segments are listed, and how long they last
+-- a track in a section: the number and the total duration of its listed segments
 abbrev pub entry_line : (digits : ℕ) → Presented → (track section : ℕ) → Track → List ℕ
 entry_line digits p track section t =
     let listed = listed_at p section track in

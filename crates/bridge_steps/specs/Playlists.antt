@@ -1,4 +1,4 @@
--- The files that `hls` writes of a presentation.
+-- The files that `hls` writes for a presentation.
 use Rattle.std.specs.Prelude.{ℕ, List, [], ◌∷◌, ◌++◌, map, codes}
 use Rattle.presentation.specs.{Presented.Presented, Counting.tracks_of}
 use Rattle.hls_writer.specs.{Finished.media_text, Master.master_text}
@@ -14,6 +14,6 @@ track_files out digits p = map (track_file out digits p) (tracks_of p)
 abbrev pub master_file : (out : List ℕ) → Presented → List ℕ × List ℕ
 master_file out p = (in_folder out (codes "master.m3u8"), master_text p)
 
--- the playlists of the tracks in order, and the master last
+-- the playlists of the tracks in order, and the master playlist last
 abbrev pub playlists : (out : List ℕ) (digits : ℕ) → Presented → List (List ℕ × List ℕ)
 playlists out digits p = track_files out digits p ++ master_file out p ∷ []

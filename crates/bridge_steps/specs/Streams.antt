@@ -1,4 +1,4 @@
--- Streams of what is followed: frames, or rounds.
+-- Streams that are followed: of update frames, or of snapshots.
 use Rattle.std.specs.Prelude.{◌≡◌, ℕ, List, [], ◌∷◌, Option, Some, None, IfSome, Result, MatchResult}
 use Rattle.bridge_jobs.specs.{Frames.refusal, declared.frame.FramePos.FramePos, declared.frame.FrameFault.FrameFault}
 
@@ -6,12 +6,12 @@ use Rattle.bridge_jobs.specs.{Frames.refusal, declared.frame.FramePos.FramePos, 
 abbrev pub Stream : Type 0 → Type 0
 Stream X = List X × Option FrameFault
 
--- the frame that is read first, if there is one, and the stream behind it
+-- the first frame, if there is one, and the stream after it
 abbrev pub with_first : {X : Type 0} → Option X → Stream X → Stream X
 with_first None more = ([], None)
 with_first (Some x) more = (x ∷ more.0, more.1)
 
--- Of the bytes that were there the call reads the first frame, and behind it the stream goes on; or the stream ends there.
+-- The call reads the first frame of the unread bytes, and the stream continues after it; or the stream ends there.
 abbrev pub ReadsFirst : {X : Type 0} → (stream : FramePos → List ℕ → Stream X) → (at at' : FramePos) → Result (Option X) FrameFault
     → (before after : Option (List ℕ)) → Type 0
 ReadsFirst stream at at' result before after =

@@ -21,7 +21,7 @@ pub fn done_line(alloc: Global, presentation: &Presentation) -> Result<Text, NoM
     Ok(Text::from(line))
 }
 
-/// The name of the MPD in a folder and the line of the report, which are made before anything is written.
+/// The name of the MPD in a folder and the line of the report, prepared before anything is written.
 pub fn mpd_and_line(
     alloc: Global,
     out: &Name,
@@ -35,7 +35,7 @@ pub fn mpd_and_line(
     Ok((name, done_line(alloc, presentation)?))
 }
 
-/// Adds how many tracks, sections and listed segments a presentation has, and how many were left out.
+/// Appends how many tracks, sections and listed segments a presentation has, and how many were dropped.
 #[tactic(auto, unfolding(crate::specs::Done::counts_text))]
 pub fn push_counts(
     line: &mut String,

@@ -1,4 +1,4 @@
-// Where a job's files lie, and how a command ends.
+// The locations of a command's files, and how a command ends.
 ghost use Rattle.bridge_playlists.specs.Places as places;
 ghost use Rattle.bridge_steps.specs.Endings.{IsPlaced, IsTold, IsWritten};
 
@@ -9,7 +9,7 @@ use bridge_report::{Halt, Refusal, halted, refused};
 use hls_writer::OutFault;
 use std::alloc::Global;
 
-/// Where a file of a job lies, under the URL of the store's root. Where that is refused, the command ends so.
+/// The location of a command's file, under the URL of the store's root; or the command's end, where that is rejected.
 pub fn place_in(alloc: Global, base: &Text, file: &Name) -> Result<StorePlace, Ending>
     ensures { IsPlaced (places.store_place_of base.now file.now) result }
 {
@@ -20,7 +20,7 @@ pub fn place_in(alloc: Global, base: &Text, file: &Name) -> Result<StorePlace, E
     }
 }
 
-/// How a command ends that tells what it read, with its verdict, or why a file isn't read.
+/// How a command ends that reports on what it read, with its verdict, or why a file isn't read.
 pub fn told(alloc: Global, read: Result<(Verdict, Text), Halt>) -> Ending
     ensures { IsTold read result }
 {
@@ -30,7 +30,7 @@ pub fn told(alloc: Global, read: Result<(Verdict, Text), Halt>) -> Ending
     }
 }
 
-/// How a command ends that has written its files, and tells a line of them, or that failed to write them.
+/// How a command ends that has written its files, with a line, or that failed to write them.
 pub fn written(line: Text, written: Result<(), OutFault>) -> Ending
     ensures { IsWritten line written result }
 {

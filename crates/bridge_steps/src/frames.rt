@@ -1,4 +1,4 @@
-// What is followed.
+// Following.
 ghost use Rattle.std.specs.Prelude.{◌≡◌, ℕ, ◌+◌, ◌<◌, ◌≤◌, List, Option, Some, IfOk, IfErr, IfSome, OnOk, OnErr};
 ghost use Rattle.bridge_io.specs.Fault.{HasCause};
 ghost use Rattle.bridge_io.specs.InOrder.{put_all, AreBegun};
@@ -18,30 +18,31 @@ use bridge_report::Stop;
 use hls_writer::OutFault;
 use std::alloc::Global;
 
-/// What is followed: a stream of frames, each of which is accepted or refused, and the files of what the accepted ones leave.
+/// What is followed: a stream of update frames, each accepted or rejected, and the files for the state after the accepted
+/// ones.
 pub trait Follow {
-    /// A frame of the stream.
+    /// An update frame of the stream.
     type Frame: Drop;
 
-    /// What the accepted frames left.
+    /// The state after the accepted frames.
     type Live: Drop;
 
-    /// Why frames are refused, what they leave, and which files are written of that.
+    /// Why frames are rejected, the state after them, and its files.
     ghost told: { Self → Followed Self.Live Self.Frame };
 
     /// How many frames were accepted.
     ghost accepted: { Self → Self.Live → ℕ };
 
-    /// What is known of what the accepted frames left.
+    /// The invariant of the state.
     ghost is_kept: { Self → Self.Live → Type 0 } = { λ _ _. Unit {0} };
 
-    /// The stream of the bytes that begin at a place.
+    /// The stream of the bytes that begin at a position.
     ghost stream: { Self → FramePos → List ℕ → Stream Self.Frame };
 
-    /// What is known of a frame that is read.
+    /// What holds for a frame that was read.
     ghost is_read: { Self → Self.Frame → Type 0 };
 
-    /// Reads the next frame of the stream, and moves the place behind it. There is none exactly where the stream ends at a
+    /// Reads the next frame of the stream, and moves the position past it. `None` exactly where the stream ends at a
     /// frame's end.
     fn next<I: Source>(
         &self,
@@ -56,7 +57,8 @@ pub trait Follow {
         ensures read { IfOk result (λ frame. IfSome frame (λ f. is_read self.now f)) }
         ensures cause { HasCause Fault (I.faults input.old) (I.faults input.new) result };
 
-    /// Takes a frame, and answers how many segments it appended; or why it is refused, and then nothing is changed.
+    /// Applies a frame, and returns how many segments it appended; or why it is rejected, and then nothing is
+    /// changed.
     fn accept<L: Ledger>(
         &self,
         alloc: Global,
@@ -75,7 +77,7 @@ pub trait Follow {
         ensures counts { OnOk result (accepted self.now live.new ≡ accepted self.now live.old + 1) }
         ensures kept { is_kept self.now live.new };
 
-    /// Writes the files of what the accepted frames left, of which there is one.
+    /// Writes the files for the state after the accepted frames, of which there is at least one.
     fn publish<F: Store>(
         &self,
         alloc: Global,

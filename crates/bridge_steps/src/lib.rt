@@ -1,5 +1,5 @@
-//! The steps of commands: where a job's files lie, the presentation of an MPD, the files that are written of one, the lines that
-//! tell it, and how a command ends; and the run of what is followed, frame by frame.
+//! The steps of commands: the locations of a command's files, the presentation of an MPD, the files that are written for one,
+//! its report lines, and how a command ends; and the run of following, frame by frame.
 #![tactic(auto)]
 
 mod done;

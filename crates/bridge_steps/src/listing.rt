@@ -1,4 +1,4 @@
-// The lines that tell a presentation's tracks and sections.
+// The report lines of a presentation's tracks and sections.
 ghost use Rattle.std.specs.Prelude.{◌≡◌, ◌<◌, ◌++◌, length, codes, flat_map, Ok, OnOk};
 ghost use Rattle.std.specs.String.{string_bytes};
 ghost use Rattle.hls_writer.specs.Lines.{seconds_bytes};
@@ -13,7 +13,7 @@ use presentation::{Extent, Presentation, Track, answers_allow_listings};
 use std::alloc::AllocError;
 use std::fmt::Write;
 
-/// Adds how many tracks, sections and segments a presentation has, and then a line for each track and section.
+/// Appends how many tracks, sections and segments a presentation has, and then a line for each track and section.
 pub fn push_shown(
     lines: &mut String,
     word: &str,
@@ -27,7 +27,7 @@ pub fn push_shown(
     push_tracks(lines, presentation, digits)
 }
 
-/// Adds the lines of all tracks.
+/// Appends the lines of all tracks.
 fn push_tracks(
     lines: &mut String,
     presentation: &Presentation,
@@ -43,7 +43,7 @@ fn push_tracks(
     Ok(())
 }
 
-/// Adds the lines of a track.
+/// Appends the lines of a track.
 fn push_track(
     lines: &mut String,
     presentation: &Presentation,
@@ -58,7 +58,7 @@ fn push_track(
     push_entries(lines, presentation, track, told, digits)
 }
 
-/// Adds a track's line for each section.
+/// Appends a track's line for each section.
 fn push_entries(
     lines: &mut String,
     presentation: &Presentation,
@@ -76,7 +76,7 @@ fn push_entries(
     Ok(())
 }
 
-/// Adds a track's line in a section.
+/// Appends a track's line in a section.
 fn push_entry(
     lines: &mut String,
     presentation: &Presentation,
@@ -97,7 +97,7 @@ fn push_entry(
     push_length(lines, digits, extent.units)
 }
 
-/// Adds a line up to the length.
+/// Appends a line up to the length.
 fn push_head(
     lines: &mut String,
     track: usize,
@@ -155,7 +155,7 @@ fn language_word(track: &Track) -> &str
     }
 }
 
-/// Adds a number of units, of which 10 to the number of digits make a second, and ends the line.
+/// Appends a number of units, of which 10 to the number of digits make a second, and ends the line.
 fn push_length(lines: &mut String, digits: Digits, units: u128) -> Result<(), AllocError>
     ensures { OnOk result (string_bytes lines.new ≡ string_bytes lines.old ++ (seconds_bytes digits units ++ codes "\n")) }
 {

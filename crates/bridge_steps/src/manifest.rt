@@ -1,4 +1,4 @@
-// From the bytes of an MPD to a presentation whose segments all have addresses.
+// From the bytes of an MPD to a presentation whose segments all have URLs.
 ghost use Rattle.std.specs.Prelude.{◌≡◌, ◌^◌, Ok, Some, IfOk, IsTrue, is_some, true};
 ghost use Rattle.bridge_io.specs.Answer.{Gives};
 ghost use Rattle.live_meaning.specs.Laws.{IsTyped};
@@ -28,7 +28,7 @@ use presentation::{Longest, Presentation};
 use std::alloc::Global;
 use url_parts::Base;
 
-/// A presentation whose segments all have addresses, with the longest printed duration of each track.
+/// A presentation whose segments all have URLs, with the longest printed duration of each track.
 #[derive(Drop)]
 pub struct Ready {
     /// The presentation.
@@ -41,9 +41,9 @@ pub struct Ready {
     ghost counted: { counted presentation ≡ Ok (count_of_all presentation) },
 }
 
-/// The presentation of the MPD in the file at a place, read at an instant, whose segments all have addresses; or why the file
-/// isn't read. A live MPD is refused as `live`, if that is given, and then what is presented is finished, and its segments can be
-/// gone over. [`Halt::ReadFault`] comes only where the store's count of failed reads rose.
+/// The presentation of the MPD in the file at a location, read at a time, whose segments all have URLs; or why the file isn't
+/// read. A live MPD is rejected with `live`, if that is given; then the presentation is VOD, and its segments can be listed.
+/// [`Halt::ReadFault`] comes only where the store's count of failed reads rose.
 #[tactic(auto, unfolding(crate::specs::Manifests::mpd_at))]
 pub fn mpd_at<F: Store, L: Ledger>(
     alloc: Global,
@@ -64,7 +64,7 @@ pub fn mpd_at<F: Store, L: Ledger>(
     mpd_in(alloc, place, bytes, now, live, digits, steps)
 }
 
-/// The same of bytes that the file at a place has.
+/// The same, given the bytes of the file at a location.
 pub fn mpd_in<L: Ledger>(
     alloc: Global,
     place: &StorePlace,
@@ -89,7 +89,7 @@ pub fn mpd_in<L: Ledger>(
     }
 }
 
-/// The presentation of bytes, or the first refusal.
+/// The presentation of bytes, or the first error.
 #[tactic(auto, unfolding(crate::specs::Manifests::checked_presentation))]
 fn checked_presentation<L: Ledger>(
     alloc: Global,
@@ -108,7 +108,7 @@ fn checked_presentation<L: Ledger>(
     ready_of(alloc, &mpd, url, now, digits, steps)
 }
 
-/// The presentation of an MPD, read at an instant, whose segments all have addresses; or the first refusal.
+/// The presentation of an MPD, read at a time, whose segments all have URLs; or the first error.
 #[tactic(auto, unfolding(crate::specs::Manifests::ready_of))]
 pub fn ready_of<L: Ledger>(
     alloc: Global,
@@ -127,7 +127,7 @@ pub fn ready_of<L: Ledger>(
     }
 }
 
-/// Looks at each listed segment of a presentation: whether it has an address, and how long its printed duration is.
+/// Checks each listed segment of a presentation: whether it has a URL, and how long its printed duration is.
 #[tactic(auto, unfolding(crate::specs::Manifests::checked), using(crate::proofs::Counted::all_counted))]
 pub fn checked<L: Ledger>(
     alloc: Global,
@@ -148,7 +148,7 @@ pub fn checked<L: Ledger>(
     }
 }
 
-/// The values of an MPD, or the first refusal. A live one may be refused.
+/// The values of an MPD, or the first error. A live one may be rejected.
 #[tactic(auto, unfolding(crate::specs::Manifests::mpd_of))]
 fn mpd_of(alloc: Global, bytes: Bytes, live: Option<Refusal>) -> Result<Mpd, Stop>
     ensures { Gives segments_mpd refused_in result (spec.mpd_of live bytes) }
@@ -160,7 +160,7 @@ fn mpd_of(alloc: Global, bytes: Bytes, live: Option<Refusal>) -> Result<Mpd, Sto
     }
 }
 
-/// The values of an MPD, live or not, or the first refusal.
+/// The values of an MPD, live or not, or the first error.
 #[tactic(auto, unfolding(crate::specs::Manifests::values_of))]
 pub fn values_of(alloc: Global, bytes: Bytes) -> Result<Mpd, Stop>
     ensures mpd { Gives segments_mpd refused_in result (spec.values_of bytes) }
@@ -170,7 +170,7 @@ pub fn values_of(alloc: Global, bytes: Bytes) -> Result<Mpd, Stop>
     typed_of(alloc, &tree)
 }
 
-/// The tree that bytes spell, which it takes over, or why they spell none.
+/// Parses bytes, which it consumes, into a tree.
 pub fn tree_of(alloc: Global, bytes: Bytes) -> Result<Tree, Stop>
     ensures { Gives root_of refused_in result (told_as Refusal.Text (reading_of bytes)) }
 {

@@ -13,9 +13,10 @@ use hls_writer::{OutFault, write_master, write_media};
 use presentation::Presentation;
 use std::alloc::Global;
 
-/// Writes the playlists of a presentation to the files of a folder: that of each track in order, and the master last.
+/// Writes the playlists of a presentation to the files of a folder: that of each track in order, and the master
+/// playlist last.
 ///
-/// An error leaves the files before one of them whole, and that one as it was or a front of its text.
+/// After an error the files before one of them are complete, and that one is as it was or truncated.
 /// [`OutFault::WriteFault`] comes only where the store's count of failed writes rose.
 pub fn write_playlists<F: Store, L: Ledger>(
     alloc: Global,
@@ -85,7 +86,7 @@ fn write_track<F: Store, L: Ledger>(
     )
 }
 
-/// Writes the master of a presentation into a folder, as `master.m3u8`.
+/// Writes the master playlist of a presentation into a folder, as `master.m3u8`.
 pub fn write_the_master<F: Store>(
     alloc: Global,
     out: &Name,
@@ -104,7 +105,7 @@ pub fn write_the_master<F: Store>(
     }
 }
 
-/// The name of a track's playlist. A folder of a job leaves room for it.
+/// The name of a track's playlist. The folder of a command leaves room for it.
 pub fn playlist_name(alloc: Global, out: &Name, track: usize) -> Result<Name, NoMemory>
     ensures { IfOk result (λ name. name ≡ in_folder out.now (playlist_of track)) }
 {
@@ -113,7 +114,7 @@ pub fn playlist_name(alloc: Global, out: &Name, track: usize) -> Result<Name, No
     Name::read(alloc, name.as_str()).map_err(|_| NoMemory)
 }
 
-/// The name of a file in a folder. A folder of a job leaves room for those of its files.
+/// The name of a file in a folder. The folder of a command leaves room for it.
 pub fn file_in(alloc: Global, out: &Name, file: &str) -> Result<Name, NoMemory>
     ensures { IfOk result (λ name. name ≡ in_folder out.now file.now) }
 {

@@ -1,4 +1,4 @@
-// The run of what is followed.
+// The run of following.
 ghost use Rattle.std.specs.Prelude.{◌≡◌, ◌⊎◌, ◌+◌, ◌<◌, ◌≤◌, List, ℕ, Some, MatchResult, OnOk, IfOk, IfErr, option_map};
 ghost use Rattle.bridge_io.specs.InOrder.{put_all};
 ghost use Rattle.bridge_io.specs.Outside.{Changes, Appends};
@@ -21,20 +21,20 @@ use bridge_report::{
 use hls_writer::OutFault;
 use std::alloc::Global;
 
-/// How far a run has come.
+/// The state of a run.
 #[derive(Drop)]
 pub struct Following<S> {
-    /// Where the next frame may begin.
+    /// The position of the next frame.
     pub at: FramePos,
-    /// What the accepted frames left.
+    /// The state after the accepted frames.
     pub live: S,
     /// How many frames were accepted.
     pub accepted: u64,
 }
 
-/// Works off the frames of the input one after another, and answers how that ends. The files of an accepted frame are written,
-/// and then its line is told; a refused frame has a line alone. [`Ending::ReadFault`] comes only where the source's count of
-/// faults rose, and the store is never read.
+/// Processes the update frames of the input one after another, and returns how that ends. The files of an accepted frame are
+/// written, and then its line is reported; a rejected frame has only a line. [`Ending::ReadFault`] comes only where the
+/// source's count of faults rose, and the store is never read.
 pub fn follow<T: Follow, I: Source, F: Store, P: Sink, L: Ledger>(
     alloc: Global,
     followed: &T,
@@ -67,7 +67,7 @@ pub fn follow<T: Follow, I: Source, F: Store, P: Sink, L: Ledger>(
     }
 }
 
-/// Works off the next frame, or answers how the work ends.
+/// Processes the next frame, or returns how the work ends.
 fn follow_next<T: Follow, I: Source, F: Store, P: Sink, L: Ledger>(
     alloc: Global,
     followed: &T,
@@ -127,8 +127,8 @@ fn broken(alloc: Global, fault: FrameFault) -> Ending
     }
 }
 
-/// Works off a frame, and answers how many were accepted so far. Where it is accepted, the files are written; in either
-/// case a line is told.
+/// Processes a frame, and returns how many were accepted so far. Where it is accepted, the files are written; in either
+/// case a line is reported.
 fn follow_frame<T: Follow, F: Store, P: Sink, L: Ledger>(
     alloc: Global,
     followed: &T,
@@ -168,7 +168,8 @@ fn follow_frame<T: Follow, F: Store, P: Sink, L: Ledger>(
     }
 }
 
-/// Writes the files of what the accepted frames left, of which there is one, and tells the line of the last one.
+/// Writes the files for the state after the accepted frames, of which there is at least one, and reports the line of
+/// the last one.
 fn publish<T: Follow, F: Store, P: Sink>(
     alloc: Global,
     followed: &T,
@@ -197,7 +198,7 @@ fn publish<T: Follow, F: Store, P: Sink>(
     }
 }
 
-/// Tells the line of a refused frame.
+/// Reports the line of a rejected frame.
 fn tell_refusal<P: Sink>(
     alloc: Global,
     index: u64,

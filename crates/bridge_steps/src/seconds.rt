@@ -8,7 +8,7 @@ use exact_time::Digits;
 use std::alloc::AllocError;
 use std::fmt::Write;
 
-/// Adds a number of units, of which 10 to the number of digits make a second, as seconds with so many decimals.
+/// Appends a number of units, of which 10 to the number of digits make a second, as seconds with that many decimals.
 pub fn push_seconds(text: &mut String, digits: Digits, units: u128) -> Result<(), AllocError>
     ensures { OnOk result (string_bytes text.new ≡ string_bytes text.old ++ seconds_bytes digits units) }
 {
@@ -18,7 +18,7 @@ pub fn push_seconds(text: &mut String, digits: Digits, units: u128) -> Result<()
     push_digits(text, &decimals[9 - usize::from(digits.count())..])
 }
 
-/// Adds decimal digits.
+/// Appends decimal digits.
 fn push_digits(text: &mut String, digits: &[u8]) -> Result<(), AllocError>
     requires { All (λ digit. digit < 128) digits.now }
     ensures { OnOk result (string_bytes text.new ≡ string_bytes text.old ++ digits.now) }
@@ -29,7 +29,7 @@ fn push_digits(text: &mut String, digits: &[u8]) -> Result<(), AllocError>
     Ok(())
 }
 
-/// The last nine decimal digits of a number, with zeros in front.
+/// The last nine decimal digits of a number, with leading zeros.
 #[tactic(auto, unfolding(iso_time::specs::Digits::padded_digits))]
 fn nine_decimals(number: u128) -> [u8; 9]
     ensures digits { result ≡ padded_digits 9 number }
@@ -48,7 +48,7 @@ fn nine_decimals(number: u128) -> [u8; 9]
     ]
 }
 
-/// The decimal digit of a number that counts so many.
+/// The decimal digit of a number with this unit.
 fn decimal_at(number: u128, unit: u128) -> u8
     requires { 0 < unit }
     ensures digit { result ≡ 48 + number / unit % 10 }

@@ -10,7 +10,7 @@ is_member members byte = list_any (λ member. byte == member) members
 abbrev pub all_ascii : List ℕ → Bool
 all_ascii members = list_all (λ member. nat_lt member 128) members
 
--- bit high of row low tells whether 16 * high + low is a member
+-- bit high of row low is set where 16 * high + low is a member
 pub record HasRows (members rows : List ℕ) : Type 0 where
   pub bits : (low high : ℕ) → low < 16 → high < 8 → bit_at (slice_index rows low) high
       ≡ (if is_member members (16 * high + low) then 1 else 0)

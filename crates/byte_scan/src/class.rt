@@ -1,4 +1,4 @@
-// The bytes that a text may not hold.
+// The bytes that a text may not contain.
 ghost use Rattle.std.specs.Prelude.{◌≡◌, position};
 ghost use Rattle.byte_scan.specs.Class.{is_outside, is_low_control};
 ghost use Rattle.byte_scan.specs.Lanes.{flags};
@@ -8,14 +8,13 @@ use crate::lines::LINE_FEED;
 use crate::scan::{ByteTest, first};
 use std::simd::prelude::*;
 
-/// A class of text, by the bytes that it may not hold.
+/// A class of text, by the bytes that it may not contain.
 #[derive(Debug, Clone, Copy, PartialEq, Eq, Drop)]
 pub enum Class {
-    /// Outside are the bytes below 0x20 but tab, LF and CR: those that XML 1.0 leaves out of `Char`,
-    /// its production 2.
+    /// Excludes the bytes below 0x20 except tab, LF and CR: those that `Char` of XML 1.0, production 2, excludes.
     Xml,
-    /// Outside are the same bytes and 0x7F. RFC 8216 4.1 forbids a playlist every control character
-    /// but CR and LF: of these a tab is let through here, and U+0080 to U+009F are no single bytes.
+    /// Excludes the same bytes and 0x7F. RFC 8216 4.1 forbids every control character except CR and LF in a playlist:
+    /// of these, this class allows the tab, and doesn't see U+0080 to U+009F, which aren't single bytes.
     Playlist,
 }
 
@@ -64,7 +63,7 @@ impl ByteTest for Class {
     }
 }
 
-/// The first place whose byte is outside the class.
+/// The index of the first byte that the class excludes.
 pub fn first_outside(bytes: &[u8], class: Class) -> Option<usize>
     ensures { result ≡ position (is_outside class) bytes.now }
 {

@@ -1,4 +1,4 @@
-// Tests of 32 lanes, whose answer is all ones or 0 in each lane.
+// Tests of 32 lanes. The result is all ones or 0 in each lane.
 ghost use Rattle.std.specs.Prelude.{◌≡◌, ◌/◌, ◌%◌, ◌==◌, ◌++◌, map, not, nat_lt, slice_index};
 ghost use Rattle.std.specs.Simd.Lanes.{mask_l};
 ghost use Rattle.byte_scan.specs.Lanes.{flags};
@@ -38,7 +38,7 @@ pub(crate) fn below(lanes: u8x32, bound: u8) -> u8x32
         .select(u8x32::splat(YES), u8x32::splat(NO))
 }
 
-/// The table in either half.
+/// The table in both halves.
 #[inline(always)]
 fn twice(table: [u8; 16]) -> u8x32
     ensures { result ≡ table ++ table }
@@ -53,7 +53,7 @@ fn twice(table: [u8; 16]) -> u8x32
     )
 }
 
-/// What the table has at the low four bits of each lane.
+/// The table's entry at the low four bits of each lane.
 #[inline(always)]
 pub(crate) fn at_low_bits(table: [u8; 16], lanes: u8x32) -> u8x32
     ensures { result ≡ map (λ lane. slice_index table (lane % 16)) lanes }
@@ -61,7 +61,7 @@ pub(crate) fn at_low_bits(table: [u8; 16], lanes: u8x32) -> u8x32
     twice(table).swizzle_dyn_within::<16>(lanes & u8x32::splat(15))
 }
 
-/// What the table has at the high four bits of each lane.
+/// The table's entry at the high four bits of each lane.
 #[inline(always)]
 pub(crate) fn at_high_bits(table: [u8; 16], lanes: u8x32) -> u8x32
     ensures { result ≡ map (λ lane. slice_index table (lane / 16)) lanes }
@@ -69,7 +69,7 @@ pub(crate) fn at_high_bits(table: [u8; 16], lanes: u8x32) -> u8x32
     twice(table).swizzle_dyn_within::<16>(lanes >> u8x32::splat(4))
 }
 
-/// Bit k tells whether lane k is a yes, or not 0.
+/// Bit k is set where lane k isn't 0.
 #[inline(always)]
 pub(crate) fn yes_bits(lanes: u8x32) -> u64
     ensures { result ≡ mask_l (map (λ lane. not (lane == NO)) lanes) }

@@ -1,5 +1,5 @@
-//! Scans of bytes, 32 lanes at a time: the first byte that a text may not hold, the first byte of a
-//! set, and the number of line feeds. No call takes memory.
+//! Scans of bytes, 32 lanes at a time: the first byte that a text may not contain, the first byte of a set, and the
+//! number of line feeds. No call allocates.
 #![tactic(auto)]
 
 mod class;

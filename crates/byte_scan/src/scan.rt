@@ -1,4 +1,4 @@
-// Scans by any test of a byte: whole blocks of lanes first, and then the bytes that are left.
+// Scans by any test of a byte: whole blocks of lanes first, then the remaining bytes.
 ghost use Rattle.std.specs.Prelude.{◌≡◌, ℕ, Bool, map, position, count_by};
 ghost use Rattle.std.specs.Simd.Lanes.{mask_l};
 ghost use Rattle.byte_scan.specs.Blocks.{IsCut};
@@ -18,7 +18,7 @@ pub(crate) trait ByteTest {
         ensures { result ≡ passes self.now byte };
 }
 
-/// The whole blocks at the front, and the bytes after them.
+/// The leading whole blocks, and the bytes after them.
 #[inline(always)]
 fn cut(bytes: &[u8]) -> (&[[u8; LANES]], &[u8])
     ensures { IsCut LANES bytes.now result.0.now result.1.now }
@@ -26,7 +26,7 @@ fn cut(bytes: &[u8]) -> (&[[u8; LANES]], &[u8])
     bytes.as_chunks::<LANES>()
 }
 
-/// Bit k tells whether byte k of the block passes.
+/// Bit k is set where byte k of the block passes.
 #[inline(always)]
 fn hits<T: ByteTest>(block: &[u8; LANES], test: &T) -> u64
     ensures { result ≡ mask_l (map (T.passes test.now) block.now) }
@@ -48,7 +48,7 @@ fn count_by_byte<T: ByteTest>(bytes: &[u8], test: &T) -> u64
     bytes.iter().filter(|byte| test.passes(**byte)).count() as u64
 }
 
-/// The first place whose byte passes.
+/// The index of the first byte that passes.
 #[inline(always)]
 pub(crate) fn first<T: ByteTest>(bytes: &[u8], test: &T) -> Option<usize>
     ensures { result ≡ position (T.passes test.now) bytes.now }

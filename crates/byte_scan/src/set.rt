@@ -7,11 +7,11 @@ use crate::scan::{ByteTest, first};
 use std::marker::Model;
 use std::simd::prelude::*;
 
-/// A set of one to eight ASCII bytes, made ready for [`first_of_set`]: make it once for many calls.
+/// A set of one to eight ASCII bytes, prepared for [`first_of_set`]: build it once for many calls.
 #[derive(Drop)]
 pub struct ByteSet {
     members: [u8; 8],
-    // Bit `high` of row `low` tells whether 16 * high + low is a member.
+    // Bit `high` of row `low` is set where 16 * high + low is a member.
     rows: [u8; 16],
 }
 
@@ -26,7 +26,7 @@ impl Model for ByteSet {
     ghost invariant = { λ set. IsReady set.members set.rows };
 }
 
-// The bit of a row that stands for each upper half of a byte; none for those that are not ASCII.
+// The bit of a row for each upper half of a byte; 0 for those that aren't ASCII.
 const BITS: [u8; 16] = [1, 2, 4, 8, 16, 32, 64, 128, 0, 0, 0, 0, 0, 0, 0, 0];
 
 fn rows_of(members: &[u8; 8]) -> [u8; 16]
@@ -41,7 +41,7 @@ fn rows_of(members: &[u8; 8]) -> [u8; 16]
 }
 
 impl ByteSet {
-    /// The set of these ASCII bytes, of which some may be equal.
+    /// The set of these ASCII bytes, which may repeat.
     pub fn new(members: [u8; 8]) -> ByteSet
         requires { IsTrue (all_ascii members) }
         ensures { result ≡ members }
@@ -68,7 +68,7 @@ impl ByteTest for ByteSet {
     }
 }
 
-/// The first place whose byte is a member of the set.
+/// The index of the first byte that is a member of the set.
 pub fn first_of_set(bytes: &[u8], set: &ByteSet) -> Option<usize>
     ensures { result ≡ position (is_member set.now) bytes.now }
 {

@@ -13,8 +13,8 @@ use Rattle.presentation.specs.{Meanings.{entry_at, language_of, segment_of}, Ori
 use Rattle.presentation.specs.{Printing.PrintedRest, Verifying.verified}
 use Rattle.comparison.specs.declared.spot.Spot.{Spot}
 
--- The first presentation is finished and its listed segments have addresses; those of the second one are addresses, and
--- are counted.
+-- The first presentation is VOD, and its listed segments have URLs; those of the second one are given by URLs, and `count`
+-- succeeds for it.
 pub record AreComparable (unit : ℕ) (mpd playlists : Presented) : Type 0 where
   pub longest : List ℕ
   pub verified : verified mpd unit ≡ Ok longest
@@ -24,18 +24,18 @@ pub record AreComparable (unit : ℕ) (mpd playlists : Presented) : Type 0 where
 
 -- ---- segments
 
--- what a segment that is made means
+-- the meaning of a segment that is made
 abbrev pub segment_made : Made → Segment
 segment_made made = record { part = made.part; start = made.times.start; end = made.times.end }
 
--- what the segments mean that are left
+-- the meaning of the segments that are left
 abbrev pub segments_left : PrintedRest → List Segment
 segments_left rest = map (λ x. segment_of rest.timeline x.times) rest.left
 
 abbrev pub AreAddressed : PrintedRest → Type 0
 AreAddressed rest = All (λ x. HasAddress rest.timeline x.times) rest.left
 
--- what a track has in a section: nothing where no segment is listed
+-- the content of a track in a section: `None` where no segment is listed
 abbrev pub entry_made : Part → List Segment → Option Entry
 entry_made initialization [] = None
 entry_made initialization (x ∷ xs) = Some (record { initialization = initialization; segments = x ∷ xs })
@@ -52,7 +52,7 @@ segments_from unit at begin_a begin_b xs ys = segments_difference unit at.track 
 
 -- ---- contents
 
--- what differs first of a track in a section, of a track, and of all tracks
+-- the first difference of a track in a section, of a track, and of all tracks
 abbrev pub difference_at : ℕ → Presented → Presented → (t s : ℕ) → Option Difference
 difference_at unit a b t s = entry_difference unit t s (entry_at a s t) (entry_at b s t)
 
@@ -62,22 +62,22 @@ difference_of unit a b t = first_some (map (difference_at unit a b t) (sections_
 abbrev pub contents_difference : ℕ → Presented → Presented → Option Difference
 contents_difference unit a b = first_some (map (difference_of unit a b) (tracks_of a))
 
--- ---- what the tracks are
+-- ---- the kinds and languages of the tracks
 
 abbrev pub is_same_track : Track → Track → Bool
 is_same_track a b = is_same_kind a.kind b.kind && option_eq bytes_eq (language_of a.kind a.language) (language_of b.kind b.language)
 
--- track by track, of which the first one has a place
+-- track by track, given the index of the first one
 abbrev pub tracks_difference : ℕ → (xs ys : List Track) → Option Difference
 tracks_difference t [] ys = None
 tracks_difference t (a ∷ xs) [] = None
 tracks_difference t (a ∷ xs) (b ∷ ys) = option_or (unless (is_same_track a b) (in_track t aspect.Track)) (tracks_difference (t + 1) xs ys)
 
--- where there is no track, no section has anything
+-- where there is no track, no section has content
 abbrev pub sections_meant : Presented → ℕ
 sections_meant p = if length p.tracks == 0 then 0 else length p.sections
 
--- the numbers of sections and of tracks, and then what the tracks are
+-- the numbers of sections and of tracks, and then the tracks' kinds and languages
 abbrev pub heads_difference : Presented → Presented → Option Difference
 heads_difference a b =
     option_or (unless (sections_meant a == sections_meant b) (in_all aspect.Sections))

@@ -1,4 +1,4 @@
-// What the tracks have in the sections.
+// The contents of the tracks in the sections.
 ghost use Rattle.std.specs.Prelude.{◌≡◌, ◌^◌, ◌<◌, length, IfOk};
 ghost use Rattle.presentation.specs.Presented.{listed_at};
 ghost use Rattle.presentation.specs.Meanings.{entry_at};
@@ -22,7 +22,7 @@ pub(crate) struct Both<'a> {
 }
 
 impl Both<'_> {
-    /// What differs first of what the tracks have in the sections, of which both have as many.
+    /// The first difference of the contents of the tracks, where both have as many sections and tracks.
     pub(crate) fn difference<L: Ledger>(
         &self,
         alloc: Global,
@@ -41,7 +41,7 @@ impl Both<'_> {
         Ok(None)
     }
 
-    /// The same of a track.
+    /// The same for a track.
     fn track_difference<L: Ledger>(
         &self,
         alloc: Global,
@@ -62,7 +62,7 @@ impl Both<'_> {
         Ok(None)
     }
 
-    /// The same of a track in a section.
+    /// The same for a track in a section.
     fn section_difference<L: Ledger>(
         &self,
         alloc: Global,

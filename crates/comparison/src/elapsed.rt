@@ -1,7 +1,7 @@
-// A time that is told as a difference of two ticks.
+// A time as the difference of two ticks.
 ghost use Rattle.std.specs.Prelude.{◌<◌};
 
-/// A time from one tick to another, which is negative where the latter is the earlier one.
+/// A time from one tick to another, which is negative where the second is the earlier one.
 #[derive(Clone, Copy)]
 pub(crate) struct Elapsed {
     pub(crate) ticks: i128,

@@ -1,4 +1,4 @@
-// What the tracks are.
+// The kinds and languages of the tracks.
 ghost use Rattle.std.specs.Prelude.{◌≡◌, ◌==◌, bytes_eq, option_map, length};
 ghost use Rattle.std.specs.Option.{option_eq};
 ghost use Rattle.meaning.specs.Differences.{in_all, in_track, is_same_kind};
@@ -9,7 +9,7 @@ use bridge_io::Kind;
 use meaning::{Aspect, Difference};
 use presentation::{Presentation, Track};
 
-/// What differs first of the numbers of sections and of tracks, and of what each track is.
+/// The first difference of the numbers of sections and of tracks, and of the tracks' kinds and languages.
 pub(crate) fn heads_difference(mpd: &Presentation, playlists: &Presentation) -> Option<Difference>
     ensures { result ≡ spec.heads_difference mpd.now playlists.now }
 {
@@ -22,7 +22,7 @@ pub(crate) fn heads_difference(mpd: &Presentation, playlists: &Presentation) -> 
     tracks_difference(mpd.tracks().as_slice(), playlists.tracks().as_slice())
 }
 
-/// Something that differs of a track.
+/// A difference of a track.
 fn in_track(track: usize, what: Aspect) -> Difference
     ensures { result ≡ in_track track what }
 {
@@ -34,7 +34,7 @@ fn in_track(track: usize, what: Aspect) -> Difference
     }
 }
 
-/// How many sections a presentation has in which some track has something. Where there is no track there is none.
+/// How many sections of a presentation have content of some track; none where there is no track.
 fn sections_meant(presentation: &Presentation) -> usize
     ensures { result ≡ spec.sections_meant presentation.now }
 {
@@ -44,7 +44,7 @@ fn sections_meant(presentation: &Presentation) -> usize
     presentation.sections().len()
 }
 
-/// The first track that is another one, of as many tracks.
+/// The first track that differs, where both have as many tracks.
 fn tracks_difference(mpd: &[Track], playlists: &[Track]) -> Option<Difference>
     requires { length mpd.now ≡ length playlists.now }
     ensures { result ≡ spec.tracks_difference 0 mpd.now playlists.now }
@@ -72,7 +72,7 @@ fn is_same_kind(mine: Kind, theirs: Kind) -> bool
     )
 }
 
-/// The language, which a video track doesn't tell.
+/// The language, which a video track doesn't have.
 fn language_of(track: &Track) -> Option<&str>
     ensures { option_map (λ language. language.now) result ≡ language_of track.now.kind track.now.language }
 {

@@ -1,6 +1,7 @@
 //! Where a presentation of playlists first differs from that of an MPD.
 //!
-//! The listed segments of both are walked side by side, one of each at a time, up to the first difference, and none is kept.
+//! The listed segments of both are visited in parallel, one of each at a time, up to the first difference, and none is
+//! stored.
 #![tactic(auto)]
 
 mod contents;

@@ -12,13 +12,14 @@ use meaning::Difference;
 use presentation::Presentation;
 use std::alloc::Global;
 
-/// The first place where the presentation of playlists neither means the same as that of an MPD nor rounds its times down to
-/// units of the last one of these decimals of a second: the number of sections, the number of tracks, what each track is,
-/// and then by track and section its initialization part, and by segment the address, the range and the time, and how many
-/// segments there are (ISO/IEC 23009-1, 5.3; RFC 8216, 4.3). Segments are made up to the first difference alone.
+/// The first difference where the presentation of playlists neither means the same as that of an MPD nor rounds its times
+/// down to units of the last one of these decimals of a second: the number of sections, the number of tracks, the kind and
+/// language of each track, and then by track and section its init segment, and by segment the URL, the byte range and the
+/// time, and how many segments there are (ISO/IEC 23009-1, 5.3; RFC 8216, 4.3). Segments are made only up to the first
+/// difference.
 ///
-/// Requires that the first one is finished, that `verify` answered Ok for it and these digits, that the second one came from
-/// playlists, and that `count` answered Ok for it.
+/// Requires that the first one is VOD, that `verify` returned `Ok` for it and these digits, that the second one came from
+/// playlists, and that `count` returned `Ok` for it.
 pub fn compare<L: Ledger>(
     alloc: Global,
     mpd: &Presentation,

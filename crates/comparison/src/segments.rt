@@ -17,7 +17,7 @@ use std::alloc::Global;
 use timeline::Segment;
 use url_parts::{Part, Range};
 
-/// Where the first segments begin, from which times are counted, and the decimals that times may be rounded down to.
+/// The starts of the first segments, the origin of times, and the decimals that times may be rounded down to.
 #[derive(Clone, Copy)]
 struct Begins {
     mine: Tick,
@@ -26,7 +26,7 @@ struct Begins {
 }
 
 impl Begins {
-    /// What differs first of a segment: its address, its range, its time.
+    /// The first difference of a segment: its URL, its byte range, its time.
     fn difference(&self, at: Spot, mine: &Segment, theirs: &Segment) -> Option<Difference>
         ensures { result ≡ segment_difference (10 ^ self.now.digits) (in_entry at.track at.section at.segment) (time_of self.now.mine)
             (time_of self.now.theirs) (segment_made mine.now) (segment_made theirs.now) }
@@ -58,7 +58,7 @@ impl Begins {
         is_same_or_rounded(mine, theirs, self.digits.unit())
     }
 
-    /// Makes the next segment of each, and tells what differs first of them.
+    /// Makes the next segment of each, and returns their first difference.
     fn next_difference<L: Ledger>(
         &self,
         alloc: Global,
@@ -80,7 +80,8 @@ impl Begins {
         Ok(self.difference(at, &a, &b))
     }
 
-    /// What differs first of the segments, of which the first ones are made. Of the second ones there are `listed` in all.
+    /// The first difference of the segments, where the first one of each is made. The second presentation has `listed`
+    /// segments in all.
     fn segments_difference<L: Ledger>(
         &self,
         alloc: Global,
@@ -104,7 +105,8 @@ impl Begins {
         }
     }
 
-    /// What differs first of the segments behind the first ones. Of the second ones there are `listed` in all.
+    /// The first difference of the segments after the first ones. The second presentation has `listed` segments in
+    /// all.
     fn rest_difference<L: Ledger>(
         &self,
         alloc: Global,
@@ -131,15 +133,15 @@ impl Begins {
     }
 }
 
-/// What a track has in a section.
+/// The content of a track in a section.
 #[derive(Drop)]
 pub(crate) struct Entry<'a> {
     pub(crate) initialization: &'a Part,
     pub(crate) segments: Walk<'a>,
 }
 
-/// What differs first of a track in a section: whether it has something there, its initialization part, and its segments in
-/// order. Of the second one's segments there are `listed`.
+/// The first difference of a track in a section: whether it has content there, its init segment, and its segments in order.
+/// The second presentation has `listed` segments there.
 pub(crate) fn entry_difference<L: Ledger>(
     alloc: Global,
     spot: Spot,

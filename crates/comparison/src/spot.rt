@@ -1,10 +1,10 @@
-// Where something differs.
+// The position of a difference.
 ghost use Rattle.std.specs.Prelude.{◌≡◌};
 ghost use Rattle.meaning.specs.Differences.{in_entry};
 
 use meaning::{Aspect, Difference};
 
-/// A segment of a track in a section, each told by its place from 0.
+/// A segment of a track in a section, each by its index from 0.
 #[derive(Clone, Copy, Debug)]
 pub(crate) struct Spot {
     pub(crate) section: usize,
@@ -22,7 +22,7 @@ impl Spot {
         Spot { segment, ..self }
     }
 
-    /// Something that differs here.
+    /// A difference here.
     pub(crate) fn of(self, what: Aspect) -> Difference
         ensures { result ≡ in_entry self.track self.section self.segment what }
     {

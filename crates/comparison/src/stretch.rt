@@ -10,7 +10,7 @@ use crate::elapsed::Elapsed;
 use exact_time::{Tick, compare, floor_unit};
 use std::cmp::Ordering;
 
-/// Where a track's first segment in a section begins, and where one of its segments ends.
+/// The start of a track's first segment in a section, and the end of one of its segments.
 #[derive(Clone, Copy)]
 pub(crate) struct Stretch {
     pub(crate) begin: Tick,
@@ -18,7 +18,7 @@ pub(crate) struct Stretch {
 }
 
 impl Stretch {
-    /// How long it is.
+    /// Its length.
     fn elapsed(self) -> Elapsed
         ensures { time_since result ≡ stretch_of self }
     {
@@ -29,7 +29,7 @@ impl Stretch {
         }
     }
 
-    /// How many units of which so many make a second fit in. None fits where it ends before it begins.
+    /// How many whole units it has; the argument is the units per second. 0 where it ends before it begins.
     fn floor(self, unit: u32) -> u128
         requires { unit ≤ 10 ^ 9 }
         ensures { result ≡ floor_in unit (stretch_of self) }
@@ -63,7 +63,7 @@ impl Elapsed {
             )
     }
 
-    /// Whether it is as long as a number of units, of which so many make a second.
+    /// Whether it is as long as `count` units, of which `unit` make a second.
     fn is_units(self, count: u128, unit: u32) -> bool
         requires { 0 < unit }
         ensures { result ≡ is_same_time (in_units unit count) (time_since self) }
@@ -78,7 +78,7 @@ impl Elapsed {
     }
 }
 
-/// Whether the second stretch is as long as the first one, or as that one rounded down to whole units, of which so many make
+/// Whether the second stretch is as long as the first one, or as that one rounded down to whole units, of which `unit` make
 /// a second.
 pub(crate) fn is_same_or_rounded(mine: Stretch, theirs: Stretch, unit: u32) -> bool
     requires positive { 0 < unit }
@@ -89,7 +89,8 @@ pub(crate) fn is_same_or_rounded(mine: Stretch, theirs: Stretch, unit: u32) -> b
     mine.elapsed().is_same(told) || told.is_units(mine.floor(unit), unit)
 }
 
-/// Whether two fractions are equal. Their whole parts are told apart from what is left, so that no product leaves 128 bits.
+/// Whether two fractions are equal. Their whole parts and remainders are compared separately, so that no product exceeds
+/// 128 bits.
 fn is_same_ratio(ticks: u128, scale: u64, other_ticks: u128, other_scale: u64) -> bool
     requires scale { 0 < scale }
     requires other_scale { 0 < other_scale }

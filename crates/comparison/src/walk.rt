@@ -1,4 +1,4 @@
-// The listed segments of a track in a section, as they mean.
+// The listed segments of a track in a section, by their meaning.
 ghost use Rattle.std.specs.Prelude.{◌≡◌, ◌∷◌, [], MatchOption, IfOk};
 ghost use Rattle.comparison.specs.Comparing.{AreAddressed, segments_left, segment_made};
 
@@ -8,9 +8,9 @@ use std::alloc::Global;
 use std::marker::Model;
 use timeline::{ListFault, Segment};
 
-/// Segments that all have addresses, each made when it is asked for.
+/// An iterator over segments that all have URLs.
 ///
-/// In a contract it is what those mean that are left.
+/// In a contract it is the meaning of those that are left.
 #[derive(Drop)]
 pub(crate) struct Walk<'a> {
     segments: PrintedSegments<'a>,
@@ -36,7 +36,7 @@ impl<'a> Walk<'a> {
         Walk { segments }
     }
 
-    /// Makes the next segment. There is none exactly at the end.
+    /// Makes the next segment; `None` exactly at the end.
     pub(crate) fn next<L: Ledger>(
         &mut self,
         alloc: Global,
@@ -48,7 +48,7 @@ impl<'a> Walk<'a> {
     }
 }
 
-/// Makes the next segment of those that all have addresses.
+/// Makes the next segment of those that all have URLs.
 fn next_segment<L: Ledger>(
     alloc: Global,
     segments: &mut PrintedSegments<'_>,

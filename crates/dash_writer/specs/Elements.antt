@@ -1,8 +1,8 @@
--- Elements that are written.
+-- Written elements.
 use Rattle.std.specs.Prelude.{ℕ, List, [], ◌∷◌, Option, Some, None}
 use Rattle.mpd_tree.specs.Markup.{Tag, Markup, nothing, element}
 
--- an element with what stands in it
+-- an element with its content
 abbrev pub Element : Type 0
 Element = Tag × Markup
 

@@ -4,7 +4,7 @@ use Rattle.presentation.specs.declared.track.Track.{Track}
 use Rattle.dash_writer.specs.{declared.outline.Outline.Outline as Given, Elements.{Attribute, Element}, Outline.{AreListed, Outline}}
 use Rattle.dash_writer.specs.{Outline.{heads_from, outline_text}, Written.all_told}
 
--- by the attributes of a Period at a place, and by what a track has in a Period
+-- by the attributes of a Period at an index, and by the content of a track in a Period
 abbrev pub outline_of : {P T : Type 0} → (head : ℕ → P → List Attribute) → (lists : T → (section track : ℕ) → List Element) → Given P T
     → Outline
 outline_of head lists o = record {
@@ -24,7 +24,7 @@ abbrev pub given_text : {P T : Type 0} → (head : ℕ → P → List Attribute)
     → List ℕ
 given_text head lists o = text_with head lists (all_told o.root.now) o.periods.now o.tracks.now o.lists.now
 
--- each track can be listed in each Period, and has something there
+-- each track can be listed in each Period, and has content there
 abbrev pub CanBeListed : {P T : Type 0} → (can_list : T → (section track : ℕ) → Type 0) → (lists : T → (section track : ℕ) → List Element)
     → Given P T → Type 0
 CanBeListed can_list lists o =

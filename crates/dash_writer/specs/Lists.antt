@@ -15,8 +15,8 @@ timeline_with first durations = node (codes "SegmentTimeline") [] (s_elements (S
 abbrev pub contents_with : (first : ℕ) → Part → (durations : List ℕ) → List Part → List Element
 contents_with first part durations parts = initialization part ∷ timeline_with first durations ∷ map segment_url parts
 
--- segments of these durations and files, of which the first one begins at a media time; the media time of the Period's start
--- stands where it is told
+-- segments of these durations and files, the first of which begins at a media time; the media time of the Period's start is
+-- written where it is given
 abbrev pub list_with : (ticks : ℕ) (offset : Option ℕ) (first : ℕ) → Part → (durations : List ℕ) → List Part → Element
 list_with ticks offset first part durations parts =
     node (codes "SegmentList") (head_attributes ticks offset) (contents_with first part durations parts)

@@ -9,7 +9,7 @@ use Rattle.dash_writer.specs.{Outline.{Outline, heads_from, outline_text}, Value
 
 -- ---- the root
 
--- while more may come: AST, the instant of this text, and after how long there may be another one
+-- of a dynamic MPD: availabilityStartTime, the time of this text, and after how long there may be another one
 abbrev pub growing_root : (start published : List ℕ) (target : ℕ) → List Attribute
 growing_root start published target =
     (codes "xmlns", Some (codes "urn:mpeg:dash:schema:mpd:2011"))
@@ -21,7 +21,7 @@ growing_root start published target =
     ∷ (codes "minBufferTime", Some (codes "PT2S"))
     ∷ []
 
--- when a Period ends, in nanoseconds, of which fewer than 10^19 can be written
+-- when a Period ends, in nanoseconds; fewer than 10^19 can be written
 abbrev pub live_end : LivePeriod → ℕ
 live_end period = min (10 ^ 19 - 1) (period.start + period.longest)
 
@@ -34,9 +34,9 @@ live_root mpd =
     if mpd.ended then finished_root (last_live_end mpd.periods)
     else growing_root (instant_text mpd.start) (instant_text mpd.published) mpd.target
 
--- ---- Periods, and what tracks have in them
+-- ---- Periods, and the contents of tracks in them
 
--- by its section's number; it tells no duration, also where nothing more comes
+-- its id is its section's number; it has no duration, also where the presentation has ended
 abbrev pub live_period : (place : ℕ) → LivePeriod → List Attribute
 live_period place period =
     (codes "id", Some (decimal period.number)) ∷ (codes "start", Some (duration_text period.start)) ∷ (codes "duration", None) ∷ []
@@ -46,11 +46,11 @@ abbrev pub first_time : List LiveSegment → ℕ
 first_time [] = 0
 first_time (segment ∷ segments) = segment.time
 
--- the file of a segment, or which bytes of it
+-- the file of a segment, or a byte range of it
 abbrev pub part_of : LiveSegment → Part
 part_of segment = record { address = segment.address; range = segment.range }
 
--- in nanoseconds from the Period's start on
+-- in nanoseconds relative to the Period's start
 abbrev pub live_list : LiveRun → Element
 live_list run = list_with (10 ^ 9) None (first_time run.segments) run.initialization
     (map (λ (segment : LiveSegment). segment.duration) run.segments) (map part_of run.segments)
@@ -74,13 +74,13 @@ live_outline mpd = record {
 unfoldable pub live_text : LiveMpd → List ℕ
 live_text mpd = outline_text (live_outline mpd)
 
--- the years of its instants are 1000 to 9999, and each track has a run in each Period
+-- the years of its timestamps are 1000 to 9999, and each track has a run in each Period
 pub record IsLive (mpd : LiveMpd) : Type 0 where
   pub start : IsWritable mpd.start
   pub published : IsWritable mpd.published
   pub filled : All (λ (period : LivePeriod). length period.runs ≡ length mpd.tracks) mpd.periods
 
--- the track at a place has a run in the Period at a place
+-- a track has a run in a Period, by the two indices
 abbrev pub HasRun : LiveMpd → (section place : ℕ) → Type 0
 HasRun mpd section place = (period : LivePeriod) × (run : LiveRun) × (slice_get mpd.periods section
     ≡ Some period) × (slice_get period.runs place ≡ Some run)

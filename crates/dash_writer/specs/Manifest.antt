@@ -10,7 +10,7 @@ use Rattle.dash_writer.specs.Segments.{segment_list}
 
 -- ---- tracks (5.3.3 and 5.3.5)
 
--- what a track has in a section
+-- the content of a track in a section
 abbrev pub segment_lists : Presented → (section place : ℕ) → List Element
 segment_lists p section place = option_to_list (option_map
     (λ content. segment_list content.runs content.initialization (listed_in (window_of p section) content.runs))
@@ -22,15 +22,15 @@ pub record CanBeListed (p : Presented) (section place : ℕ) : Type 0 where
   pub in_sections : section < length p.sections
   pub in_tracks : place < length p.tracks
 
--- Representation: the track at a place
+-- Representation: the track at an index
 abbrev pub representation : Presented → (section place : ℕ) → Track → Element
 representation p section place track = track_element (segment_lists p section) place track
 
--- the tracks from a place on
+-- the tracks from an index on
 abbrev pub representations : Presented → (section place : ℕ) → List Track → List Element
 representations p section place tracks = track_elements (segment_lists p section) place tracks
 
--- AdaptationSet: tracks that stand together, from a place on; there is none without a track
+-- AdaptationSet: tracks that belong together, from an index on; there is none without a track
 abbrev pub adaptation_set : Presented → (section place : ℕ) → List Track → List Element
 adaptation_set p section place tracks = set_element (segment_lists p section) place tracks
 
@@ -49,11 +49,11 @@ period_attributes place section =
     ∷ (codes "duration", option_map duration_text section.length)
     ∷ []
 
--- those of the sections from a place on
+-- those of the sections from an index on
 abbrev pub all_period_attributes : (place : ℕ) → List Section → List (List Attribute)
 all_period_attributes place sections = heads_from period_attributes place sections
 
--- when a section ends, in nanoseconds, of which fewer than 10^19 can be written
+-- when a section ends, in nanoseconds; fewer than 10^19 can be written
 abbrev pub end_of : Section → Option ℕ
 end_of section = option_map (λ length. min (10 ^ 19 - 1) (section.start + length)) section.length
 
@@ -61,7 +61,7 @@ end_of section = option_map (λ length. min (10 ^ 19 - 1) (section.start + lengt
 abbrev pub last_end : List Section → Option ℕ
 last_end sections = option_and_then end_of (slice_get sections (length sections - 1))
 
--- the attributes of a finished MPD that ends at a time
+-- the attributes of a static MPD that ends at a time
 abbrev pub finished_root : (end : Option ℕ) → List Attribute
 finished_root end =
     (codes "xmlns", Some (codes "urn:mpeg:dash:schema:mpd:2011"))
@@ -83,11 +83,11 @@ outline_of p = record {
   lists = segment_lists p;
 }
 
--- Period: the section at a place
+-- Period: the section at an index
 abbrev pub period : Presented → (place : ℕ) → Section → Element
 period p place section = period_element (outline_of p) place (period_attributes place section)
 
--- the sections from a place on
+-- the sections from an index on
 abbrev pub periods : Presented → (place : ℕ) → List Section → List Element
 periods p place sections = period_elements (outline_of p) place (all_period_attributes place sections)
 

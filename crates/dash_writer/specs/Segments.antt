@@ -5,7 +5,7 @@ use Rattle.url_parts.specs.declared.address.Part.{Part}
 use Rattle.timeline.specs.{declared.fault.ListFault.ListFault, Expansions.{SegmentTimeline, Timing}, Listed.part_of_timing, Ratios.natural}
 use Rattle.dash_writer.specs.{Elements.{Attribute, Element, leaf, node}, Runs.longest_runs, Values.range_text}
 
--- S (5.3.9.6): segments that last as long as one another, as many as there are repeats after the first one
+-- S (5.3.9.6): segments of equal duration, `repeats` after the first one
 abbrev pub s_element : (time : Option ℕ) → (duration repeats : ℕ) → Element
 s_element time duration repeats = leaf (codes "S") (
     (codes "t", option_map decimal time)
@@ -19,7 +19,7 @@ abbrev pub s_of : (time : Option ℕ) → List ℕ → List Element
 s_of time [] = []
 s_of time (duration ∷ others) = s_element time duration (length others) ∷ []
 
--- one S for each run, of which the first one tells that media time begins at 0
+-- one S for each run; `time` is the `@t` of the first one
 abbrev pub s_elements : (time : Option ℕ) → List (List ℕ) → List Element
 s_elements time [] = []
 s_elements time (run ∷ runs) = s_of time run ++ s_elements None runs
@@ -34,7 +34,7 @@ same_duration one other = one == other
 abbrev pub timeline_elements : List ℕ → List Element
 timeline_elements durations = s_elements (Some 0) (longest_runs same_duration durations)
 
--- the part of a segment that has an address
+-- the part of a segment that has a URL
 abbrev pub part_or_none : Result Part ListFault → Part
 part_or_none (Ok part) = part
 part_or_none (Err fault) = record { address = []; range = None }
@@ -52,7 +52,7 @@ abbrev pub initialization : Part → Element
 initialization part = leaf (codes "Initialization") ((codes "sourceURL", Some part.address)
     ∷ (codes "range", option_map range_text part.range) ∷ [])
 
--- what stands in a SegmentList
+-- the content of a SegmentList
 abbrev pub list_contents : SegmentTimeline → Part → List Timing → List Element
 list_contents timeline part listed =
     initialization part ∷ node (codes "SegmentTimeline") [] (timeline_elements (map duration_of listed)) ∷ segment_urls timeline listed

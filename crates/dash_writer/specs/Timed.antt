@@ -1,4 +1,4 @@
--- The MPD of a presentation with the times that its files state (ISO/IEC 23009-1, 5.3).
+-- The MPD of a presentation with the decode times of its files (ISO/IEC 23009-1, 5.3).
 use Rattle.std.specs.Prelude.{ℕ, zero, suc, ◌+◌, ◌*◌, ◌^◌, ◌<◌, max, sum, List, [], ◌∷◌, length, take, drop, slice_get, All, Some}
 use Rattle.std.specs.{Prelude.{option_map, option_and_then, option_to_list}, Int.div_ceil}
 use Rattle.presentation.specs.{declared.parts.Content.Content, declared.track.Section.Section, Presented.{AreFilled, Presented, content_at}}
@@ -10,21 +10,21 @@ use Rattle.dash_writer.specs.{Manifest.{CanBeListed as IsListed, all_period_attr
 
 -- ---- Periods
 
--- how long a track's segments last, in nanoseconds, rounded up
+-- the total duration of a track's segments in nanoseconds, rounded up
 abbrev pub lasting : TickRun → ℕ
 lasting run = div_ceil (sum run.durations * 10 ^ 9) run.scale
 
--- how long the longest of some tracks does
+-- that of the longest of some tracks
 abbrev pub longest : List TickRun → ℕ
 longest [] = 0
 longest (run ∷ runs) = max (lasting run) (longest runs)
 
--- the lengths of so many sections, of so many tracks each: a section lasts as long as its longest track
+-- the lengths of `count` sections, of `tracks` tracks each: a section lasts as long as its longest track
 abbrev pub lengths : (tracks count : ℕ) → List TickRun → List ℕ
 lengths tracks zero times = []
 lengths tracks (suc n) times = longest (take tracks times) ∷ lengths tracks n (drop tracks times)
 
--- sections of these lengths, one behind another; their ids aren't written
+-- sections of these lengths, one after another; their ids aren't written
 abbrev pub sections_from : (start : ℕ) → (lengths : List ℕ) → List Section
 sections_from start [] = []
 sections_from start (n ∷ lengths) = record { id = []; start = start; length = Some n } ∷ sections_from (start + n) lengths
@@ -34,7 +34,7 @@ timed_sections p times = sections_from 0 (lengths (length p.tracks) (length p.se
 
 -- ---- SegmentLists
 
--- media time is at the first segment's time where the Period begins
+-- the media time of the Period's start is the first segment's time
 abbrev pub list_of : Window → SegmentTimeline → Part → TickRun → Element
 list_of window runs part run =
     list_with run.scale (Some run.first) run.first part run.durations (parts_of runs (listed_in window runs))
@@ -42,7 +42,7 @@ list_of window runs part run =
 abbrev pub timed_list : Window → Content → TickRun → Element
 timed_list window content run = list_of window content.runs content.initialization run
 
--- what a track has in a section
+-- the content of a track in a section
 abbrev pub timed_lists : Presented → List TickRun → (section place : ℕ) → List Element
 timed_lists p times section place = option_to_list (option_and_then
     (λ content. option_map (timed_list (window_of p section) content) (slice_get times (section * length p.tracks + place)))
@@ -63,7 +63,7 @@ timed_text p times = outline_text (timed_outline p times)
 
 -- ---- what can be written
 
--- a second has ticks, and the last segment ends below 2^63
+-- the timescale isn't 0, and the last segment ends below 2^63
 pub record CanBeCounted (run : TickRun) : Type 0 where
   pub scale : 0 < run.scale
   pub ends : run.first + sum run.durations < 2 ^ 63

@@ -7,7 +7,7 @@ use Rattle.mpd_tree.specs.Markup.{Tag, attribute_text, enclosed, opening, printe
 use Rattle.dash_writer.specs.Elements.{Attribute, Element, in_order, with_attribute}
 use Rattle.dash_writer.specs.{Values.{id_text, range_text, rate_text, seconds_text}, declared.attribute.Value.Value}
 
--- what a value says
+-- the text of a value
 abbrev pub value_text : Value → List ℕ
 value_text (value.Text text) = text.now
 value_text (value.Number number) = decimal number
@@ -19,7 +19,7 @@ value_text (value.Id place) = id_text place
 value_text (value.Rate ratio) = rate_text ratio
 value_text (value.Range range) = range_text range
 
--- what an attribute says
+-- an attribute with the text of its value
 abbrev pub told : Bor (List ℕ) × Option Value → Attribute
 told a = (a.0.now, option_map value_text a.1)
 
@@ -34,14 +34,14 @@ attributes_text attributes = flat_map attribute_text attributes
 abbrev pub known_text : Attribute → List ℕ
 known_text a = attributes_text (with_attribute a.0 a.1 [])
 
--- the text of an element, and of some one after another
+-- the text of an element, and of several in order
 abbrev pub element_text : Element → List ℕ
 element_text x = enclosed x.0 x.1 (printed x.1) ++ codes "\n"
 
 abbrev pub elements_text : List Element → List ℕ
 elements_text xs = printed (in_order xs)
 
--- ---- an element in parts: its start, what stands in it, its end
+-- ---- an element in parts: its start, its content, its end
 
 abbrev pub is_childless : List Element → Bool
 is_childless [] = true

@@ -24,21 +24,21 @@ pub(crate) enum Value<'a> {
     Duration(Nanos),
     /// A duration in whole seconds.
     Seconds(u64),
-    /// An instant as it is written.
+    /// A timestamp as it is written.
     Instant(&'a [u8; 24]),
-    /// The id of the track at a place.
+    /// The id of the track at an index.
     Id(usize),
-    /// Frames a second.
+    /// Frames per second.
     Rate(Ratio),
-    /// The places of the first and the last byte.
+    /// The offsets of the first and the last byte.
     Range(Range),
 }
 
-/// An attribute by its name, which is there where it has a value.
+/// An attribute by its name, which is present where it has a value.
 pub(crate) type Attribute<'a> = (&'a str, Option<Value<'a>>);
 
 impl Value<'_> {
-    /// Adds what is written between the quotes.
+    /// Writes the value between the quotes.
     fn push_to<F: Store>(&self, sheet: &mut Sheet<F>) -> Result<(), Fail>
         ensures { Adds F.Store (escape_all (value_text self.now)) sheet.old sheet.new result }
     {
@@ -65,7 +65,7 @@ impl Value<'_> {
     }
 }
 
-/// Adds a frame rate.
+/// Writes a frame rate.
 fn push_rate<F: Store>(sheet: &mut Sheet<F>, ratio: Ratio) -> Result<(), Fail>
     ensures { Adds F.Store (escape_all (rate_text ratio)) sheet.old sheet.new result }
 {
@@ -78,7 +78,7 @@ fn push_rate<F: Store>(sheet: &mut Sheet<F>, ratio: Ratio) -> Result<(), Fail>
     sheet.push_pieces(&[n, Piece::Text(b"/"), m])
 }
 
-/// Adds the places of the first and the last byte.
+/// Writes the offsets of the first and the last byte.
 fn push_range<F: Store>(sheet: &mut Sheet<F>, range: Range) -> Result<(), Fail>
     ensures { Adds F.Store (escape_all (range_text range)) sheet.old sheet.new result }
 {
@@ -90,7 +90,7 @@ fn push_range<F: Store>(sheet: &mut Sheet<F>, range: Range) -> Result<(), Fail>
     ])
 }
 
-/// Adds the attributes that have values, in order.
+/// Writes the attributes that have values, in order.
 pub(crate) fn push_attributes<F: Store>(
     sheet: &mut Sheet<F>,
     attributes: &[Attribute<'_>],
@@ -103,7 +103,7 @@ pub(crate) fn push_attributes<F: Store>(
     Ok(())
 }
 
-/// Adds an attribute, if it has a value.
+/// Writes an attribute, if it has a value.
 fn push_attribute<F: Store>(sheet: &mut Sheet<F>, attribute: &Attribute<'_>) -> Result<(), Fail>
     ensures { Adds F.Store (known_text (told attribute.now)) sheet.old sheet.new result }
 {

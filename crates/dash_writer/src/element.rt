@@ -8,7 +8,7 @@ ghost use Rattle.dash_writer.specs.Written.{all_told, element_text, end_text, st
 use crate::attribute::{Attribute, push_attributes};
 use bridge_io::{Fail, Piece, Sheet, Store};
 
-/// Adds an element without children (XML 1.0, 3.1).
+/// Writes an element without children (XML 1.0, 3.1).
 pub(crate) fn push_leaf<F: Store>(
     sheet: &mut Sheet<F>,
     name: &str,
@@ -19,7 +19,7 @@ pub(crate) fn push_leaf<F: Store>(
     push_start(sheet, name, attributes, true)
 }
 
-/// Adds what stands before the children of an element. It is the whole element where there are none.
+/// Writes what is before the children of an element, or the whole element where there are none.
 pub(crate) fn push_start<F: Store>(
     sheet: &mut Sheet<F>,
     name: &str,
@@ -38,7 +38,7 @@ fn tag_end(childless: bool) -> &'static [u8]
     if childless { b"/>\n" } else { b">\n" }
 }
 
-/// Adds a tag up to its end.
+/// Writes a tag up to its end.
 fn push_opening<F: Store>(
     sheet: &mut Sheet<F>,
     name: &str,
@@ -51,7 +51,7 @@ fn push_opening<F: Store>(
     push_attributes(sheet, attributes)
 }
 
-/// Adds what stands behind the children of an element.
+/// Writes what is after the children of an element.
 pub(crate) fn push_end<F: Store>(
     sheet: &mut Sheet<F>,
     name: &str,

@@ -1,4 +1,4 @@
-// Texts as they are written into values.
+// Escaping of texts for values.
 ghost use Rattle.std.specs.Prelude.{◌≡◌, true};
 ghost use Rattle.byte_scan.specs.ByteSet.{is_member};
 ghost use Rattle.bridge_io.specs.Adding.{Adds};
@@ -8,7 +8,7 @@ ghost use Rattle.dash_writer.specs.Escaped.{four};
 use bridge_io::{Fail, Piece, Sheet, Store};
 use byte_scan::{ByteSet, first_of_set};
 
-/// Adds a text with `&`, `<`, `>` and `"` as references (XML 1.0, 2.4 and 4.6). What stands between two of them is added at
+/// Writes a text with `&`, `<`, `>` and `"` as references (XML 1.0, 2.4 and 4.6). What is between two of them is written at
 /// once.
 pub(crate) fn push_escaped<F: Store>(sheet: &mut Sheet<F>, text: &[u8]) -> Result<(), Fail>
     ensures { Adds F.Store (escape_all text.now) sheet.old sheet.new result }
@@ -24,7 +24,7 @@ pub(crate) fn push_escaped<F: Store>(sheet: &mut Sheet<F>, text: &[u8]) -> Resul
     sheet.push_pieces(&[Piece::Text(rest)])
 }
 
-/// The reference that is written for one of the four bytes.
+/// The reference for one of the four bytes.
 fn reference_to(byte: u8) -> &'static [u8]
     requires { is_member four byte ≡ true }
     ensures { result.now ≡ escape_of byte }

@@ -40,7 +40,7 @@ impl<L: Ledger> TrackLists<Steps<L>> for Presentation {
     }
 }
 
-/// Adds the SegmentList of the segments that are listed in a window, with their own durations.
+/// Writes the SegmentList of the listed segments in a window, with their own durations.
 fn push_own<F: Store, L: Ledger>(
     alloc: Global,
     runs: &Runs,
@@ -63,7 +63,7 @@ fn push_own<F: Store, L: Ledger>(
     push_listed(alloc, &head, &mut walk, runs, window, sheet, steps)
 }
 
-/// Adds the SegmentList of the segments that are listed in a window, with these durations.
+/// Writes the SegmentList of the listed segments in a window, with these durations.
 pub(crate) fn push_listed<D: Durations, F: Store, L: Ledger>(
     alloc: Global,
     head: &ListHead<'_>,
@@ -100,7 +100,7 @@ impl<L: Ledger> Files<Steps<L>> for Listing<'_> {
     }
 }
 
-/// Makes the next segment of those that all have addresses.
+/// Makes the next segment of those that all have URLs.
 fn next_segment<L: Ledger>(
     alloc: Global,
     listing: &mut Listing<'_>,

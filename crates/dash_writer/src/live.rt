@@ -21,16 +21,16 @@ use presentation::TrackList;
 use std::alloc::Global;
 use url_parts::{Address, Part, Range};
 
-/// A live presentation as its playlists tell it at an instant.
+/// A live presentation, by a snapshot of its playlists.
 #[derive(Drop)]
 pub struct LiveMpd {
     /// When the first Period begins: `@availabilityStartTime` (ISO/IEC 23009-1, 5.3.1.2).
     pub start: Instant,
-    /// When this was told: `@publishTime`.
+    /// The time of the snapshot: `@publishTime`.
     pub published: Instant,
     /// The greatest target duration in seconds, after which there may be more: `@minimumUpdatePeriod`.
     pub target: u64,
-    /// Whether nothing more comes.
+    /// Whether the presentation has ended.
     pub ended: bool,
     /// The tracks: video, then audio, then text.
     pub tracks: TrackList,
@@ -38,36 +38,36 @@ pub struct LiveMpd {
     pub periods: LivePeriodList,
 }
 
-/// The segments of one discontinuity sequence number that are listed (RFC 8216, 4.3.3.3).
+/// The listed segments of one discontinuity sequence number (RFC 8216, 4.3.3.3).
 #[derive(Drop)]
 pub struct LivePeriod {
     /// That number.
     pub number: u64,
     /// When it begins, from the presentation's start.
     pub start: Nanos,
-    /// When the longest of its tracks ends, from its own start.
+    /// When the longest of its tracks ends, relative to its own start.
     pub longest: Nanos,
-    /// What each track has in it.
+    /// The content of each track in it.
     pub runs: LiveRunList,
 }
 
-/// What a track has in a Period.
+/// The content of a track in a Period.
 #[derive(Drop)]
 pub struct LiveRun {
-    /// The initialization part.
+    /// The init segment.
     pub initialization: Part,
-    /// The listed segments in order, one behind another.
+    /// The listed segments in order, one after another.
     pub segments: LiveSegmentList,
 }
 
 /// A listed segment.
 #[derive(Drop)]
 pub struct LiveSegment {
-    /// The file.
+    /// The URL of its file.
     pub address: Address,
-    /// The bytes of the file; None is the whole.
+    /// Its byte range; `None` is the whole file.
     pub range: Option<Range>,
-    /// When it begins, in nanoseconds from the Period's start.
+    /// When it begins, in nanoseconds relative to the Period's start.
     pub time: u64,
     /// How long it lasts.
     pub duration: Nanos,
@@ -76,20 +76,20 @@ pub struct LiveSegment {
 /// Periods in order.
 pub type LivePeriodList = Sequence<LivePeriod>;
 
-/// What the tracks have in a Period, in their order.
+/// The contents of the tracks in a Period, in order.
 pub type LiveRunList = Sequence<LiveRun>;
 
 /// Listed segments in order.
 pub type LiveSegmentList = Sequence<LiveSegment>;
 
-/// Writes the MPD of a live presentation (ISO/IEC 23009-1, 5.3): until it is ended a dynamic one with `@publishTime` and
-/// `@minimumUpdatePeriod`, and then a static one that lasts until the last Period's longest track ends. A Period tells its
-/// number and its start, and times are nanoseconds, of which the first S tells the first listed one.
+/// Writes the MPD of a live presentation (ISO/IEC 23009-1, 5.3): until the presentation has ended a dynamic one with
+/// `@publishTime` and `@minimumUpdatePeriod`, and then a static one that lasts until the last Period's longest track ends. A
+/// Period has its number and its start, and times are nanoseconds; the first S has the time of the first listed segment.
 ///
-/// Requires that the years of the instants are 1000 to 9999, and that each track has a run in each Period. The text tells the
+/// Requires that the years of the timestamps are 1000 to 9999, and that each track has a run in each Period. The text has the
 /// segments' times where each one begins when the one before it ends.
 ///
-/// An error leaves the file as it was, or a front of the text in it. [`OutFault::WriteFault`] comes only where the store's
+/// An error leaves the file as it was, or with a prefix of the text. [`OutFault::WriteFault`] comes only where the store's
 /// count of failed writes rose.
 pub fn write_live_mpd<F: Store>(
     alloc: Global,
@@ -118,7 +118,7 @@ pub fn write_live_mpd<F: Store>(
     outline.write(alloc, store, name, &mut ())
 }
 
-/// The attributes of an MPD that goes on (5.3.1.2).
+/// The attributes of a dynamic MPD (5.3.1.2).
 fn growing_root<'a>(start: &'a [u8; 24], published: &'a [u8; 24], target: u64) -> [Attribute<'a>; 7]
     ensures { all_told result ≡ spec.growing_root start.now published.now target }
 {
@@ -160,7 +160,7 @@ impl Period for LivePeriod {
     ghost head = { spec.live_period };
 
     fn attributes(&self, place: usize) -> [Attribute<'_>; 3] {
-        let _ = place; // its number stands in the place
+        let _ = place; // unused: the id is its number
         [
             ("id", Some(Value::Number(self.number))),
             ("start", Some(Value::Duration(self.start))),
@@ -187,7 +187,7 @@ impl TrackLists<()> for LiveMpd {
     }
 }
 
-/// Adds the SegmentList of a track in a Period.
+/// Writes the SegmentList of a track in a Period.
 fn push_run<F: Store>(
     alloc: Global,
     run: &LiveRun,
@@ -218,7 +218,7 @@ fn first_time(segments: &[LiveSegment]) -> u64
     }
 }
 
-/// Segments that are left.
+/// The remaining segments.
 #[derive(Drop)]
 struct LiveSegments<'a> {
     left: &'a [LiveSegment],

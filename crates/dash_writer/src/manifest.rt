@@ -17,15 +17,15 @@ use presentation::{Presentation, Section};
 use std::alloc::Global;
 
 /// Writes the MPD of a presentation that came from playlists (ISO/IEC 23009-1, 5.3): a Period for each section; in it an
-/// AdaptationSet for all video tracks, for each audio set and for each text set; in these a Representation `t<k>` for the track
-/// k, with a SegmentList whose SegmentTimeline has one S for each longest run of equal durations. Media time begins at 0 in
-/// each Period. Values are escaped (XML 1.0, 2.4), and each tag stands in a line of its own.
+/// AdaptationSet for all video tracks, for each audio set and for each text set; in these a Representation `t<k>` for track k,
+/// with a SegmentList whose SegmentTimeline has one S for each longest run of equal durations. Media time begins at 0 in each
+/// Period. Values are escaped (XML 1.0, 2.4), and each tag is on its own line.
 ///
-/// A language, codes, a picture size and a frame rate stand where they are known, and a frame rate of 0 is left out.
+/// Language, codecs, width, height and frame rate are written where they are known, and a frame rate of 0 is omitted.
 ///
 /// Requires that the presentation came from playlists.
 ///
-/// An error leaves the file as it was, or a front of the text in it. [`OutFault::WriteFault`] comes only where the store's
+/// An error leaves the file as it was, or with a prefix of the text. [`OutFault::WriteFault`] comes only where the store's
 /// count of failed writes rose.
 pub fn write_mpd<F: Store, L: Ledger>(
     alloc: Global,
@@ -52,7 +52,7 @@ pub fn write_mpd<F: Store, L: Ledger>(
     outline.write(alloc, store, name, steps)
 }
 
-/// The attributes of a finished MPD that ends at a time (5.3.1.2).
+/// The attributes of a static MPD that ends at a time (5.3.1.2).
 pub(crate) fn finished_root<'a>(end: Option<Nanos>) -> [Attribute<'a>; 5]
     ensures { all_told result ≡ spec.finished_root end }
 {

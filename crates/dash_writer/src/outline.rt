@@ -1,4 +1,4 @@
-// What is written of an MPD: its root, its Periods, and the tracks in each of them.
+// The structure of a written MPD: its root, its Periods, and the tracks in each of them.
 ghost use Rattle.std.specs.Prelude.{◌≡◌, ◌+◌, ◌<◌, ◌⊎◌, ℕ, List, length, OnErr, OnOk};
 ghost use Rattle.bridge_io.specs.Fault.{HasCause};
 ghost use Rattle.bridge_io.specs.Outside.{put, Changes};
@@ -17,29 +17,29 @@ use bridge_io::{Fail, FileWriter, Name, OutFault, Piece, Sheet, Store};
 use presentation::Track;
 use std::alloc::Global;
 
-/// What is written of a Period (ISO/IEC 23009-1, 5.3.2).
+/// A Period to write (ISO/IEC 23009-1, 5.3.2).
 pub(crate) trait Period {
-    /// Its attributes, where it stands at a place.
+    /// Its attributes, given its index.
     ghost head: { ℕ → Self → List elements.Attribute };
 
-    /// Its attributes, where it stands at a place.
+    /// Its attributes, given its index.
     fn attributes(&self, place: usize) -> [Attribute<'_>; 3]
         ensures { all_told result ≡ head place self.now };
 }
 
-/// What is written of an MPD (5.3.1).
+/// An MPD to write (5.3.1).
 #[derive(Drop)]
 pub(crate) struct Outline<'a, P, T> {
     /// The attributes of the MPD.
     pub(crate) root: &'a [Attribute<'a>],
     pub(crate) periods: &'a [P],
     pub(crate) tracks: &'a [Track],
-    /// What the tracks have in the Periods.
+    /// The contents of the tracks in the Periods.
     pub(crate) lists: &'a T,
 }
 
 impl<P: Period, T> Outline<'_, P, T> {
-    /// Writes the text to a file. An error leaves the file as it was, or a front of the text in it.
+    /// Writes the text to a file. An error leaves the file as it was, or with a prefix of the text.
     pub(crate) fn write<S, F: Store>(
         &self,
         alloc: Global,
@@ -62,7 +62,7 @@ impl<P: Period, T> Outline<'_, P, T> {
         Ok(())
     }
 
-    /// Adds the whole text.
+    /// Writes the whole text.
     fn push_to<S, F: Store>(
         &self,
         alloc: Global,
@@ -82,7 +82,7 @@ impl<P: Period, T> Outline<'_, P, T> {
         push_end(sheet, "MPD", childless)
     }
 
-    /// Adds the Periods (5.3.2).
+    /// Writes the Periods (5.3.2).
     fn push_periods<S, F: Store>(
         &self,
         alloc: Global,
@@ -101,7 +101,7 @@ impl<P: Period, T> Outline<'_, P, T> {
         Ok(())
     }
 
-    /// Adds the Period at a place.
+    /// Writes the Period at an index.
     fn push_period<S, F: Store>(
         &self,
         alloc: Global,

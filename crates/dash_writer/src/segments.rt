@@ -16,13 +16,13 @@ use url_parts::{Part, Range};
 
 /// The files of segments, in order. `S` counts what is made.
 pub(crate) trait Files<S> {
-    /// The files that are left, and which bytes of them.
+    /// The remaining files, with byte ranges.
     ghost parts: { Self → List Part };
 
     /// When they can be written.
     ghost can_push: { Self → Type 0 };
 
-    /// Adds the SegmentURLs (ISO/IEC 23009-1, 5.3.9.3.2).
+    /// Writes the SegmentURLs (ISO/IEC 23009-1, 5.3.9.3.2).
     fn push_urls<F: Store>(
         &mut self,
         alloc: Global,
@@ -33,19 +33,19 @@ pub(crate) trait Files<S> {
         ensures { Adds F.Store (elements_text (map spec.segment_url (parts self.old))) sheet.old sheet.new result };
 }
 
-/// What a SegmentList tells of all its segments (5.3.9.2).
+/// The values of a SegmentList for all its segments (5.3.9.2).
 #[derive(Clone, Copy)]
 pub(crate) struct ListHead<'a> {
     /// How many ticks make a second.
     pub(crate) ticks: u64,
-    /// The media time of the Period's start, where it is told.
+    /// The media time of the Period's start, where it is written.
     pub(crate) offset: Option<u64>,
     /// The media time of the first segment.
     pub(crate) first: u64,
     pub(crate) initialization: &'a Part,
 }
 
-/// Adds a SegmentList (5.3.9.3).
+/// Writes a SegmentList (5.3.9.3).
 pub(crate) fn push_segment_list<S, D: Durations, P: Files<S>, F: Store>(
     alloc: Global,
     head: &ListHead<'_>,
@@ -73,7 +73,7 @@ fn list_attributes<'a>(head: &ListHead<'_>) -> [Attribute<'a>; 2]
     ]
 }
 
-/// Adds what stands in a SegmentList.
+/// Writes the content of a SegmentList.
 fn push_contents<S, D: Durations, P: Files<S>, F: Store>(
     alloc: Global,
     head: &ListHead<'_>,
@@ -93,7 +93,7 @@ fn push_contents<S, D: Durations, P: Files<S>, F: Store>(
     files.push_urls(alloc, sheet, steps)
 }
 
-/// Adds the Initialization (5.3.9.2.2).
+/// Writes the Initialization (5.3.9.2.2).
 fn push_initialization<F: Store>(part: &Part, sheet: &mut Sheet<F>) -> Result<(), Fail>
     ensures { Adds F.Store (element_text (spec.initialization part.now)) sheet.old sheet.new result }
 {
@@ -102,14 +102,14 @@ fn push_initialization<F: Store>(part: &Part, sheet: &mut Sheet<F>) -> Result<()
     push_leaf(sheet, "Initialization", &attributes)
 }
 
-/// A range as a value, where there is one.
+/// A byte range as a value, where there is one.
 fn range<'a>(range: Option<Range>) -> Option<Value<'a>>
     ensures { option_map value_text result ≡ option_map range_text range }
 {
     Some(Value::Range(range?))
 }
 
-/// Adds the SegmentURL of a file, or of some of its bytes.
+/// Writes the SegmentURL of a file, or of a byte range.
 pub(crate) fn push_url<F: Store>(
     address: &str,
     bytes: Option<Range>,

@@ -14,15 +14,15 @@ use bridge_io::{Fail, Kind, Ratio, Sheet, Size, Store, Text};
 use presentation::Track;
 use std::alloc::Global;
 
-/// What tracks have in Periods. `S` counts what is made.
+/// The contents of tracks in Periods. `S` counts what is made.
 pub(crate) trait TrackLists<S> {
-    /// The elements of a Period's track, by their places.
+    /// The elements of a Period's track, by the two indices.
     ghost lists: { Self → ℕ → ℕ → List Element };
 
     /// When they can be written.
     ghost can_list: { Self → ℕ → ℕ → Type 0 };
 
-    /// Adds what the track at a place has in the Period at a place.
+    /// Writes the content of a track in a Period, by the two indices.
     fn push_list<F: Store>(
         &self,
         alloc: Global,
@@ -35,7 +35,7 @@ pub(crate) trait TrackLists<S> {
         ensures { Adds F.Store (elements_text (lists self.now section track)) sheet.old sheet.new result };
 }
 
-/// Adds the AdaptationSets of the Period at a place (ISO/IEC 23009-1, 5.3.3).
+/// Writes the AdaptationSets of the Period at an index (ISO/IEC 23009-1, 5.3.3).
 pub(crate) fn push_sets<S, T: TrackLists<S>, F: Store>(
     alloc: Global,
     lists: &T,
@@ -57,7 +57,7 @@ pub(crate) fn push_sets<S, T: TrackLists<S>, F: Store>(
     Ok(())
 }
 
-/// How many tracks stand in the AdaptationSet of a track that they follow on.
+/// How many tracks after a first one are in its AdaptationSet.
 fn standing_with(first: &Track, others: &[Track]) -> usize
     ensures within { result ≤ length others.now }
     ensures run { longest_runs spec.stand_together (first.now ∷ others.now)
@@ -69,7 +69,7 @@ fn standing_with(first: &Track, others: &[Track]) -> usize
     }
 }
 
-/// Whether two neighbours stand in one AdaptationSet.
+/// Whether two neighbours are in one AdaptationSet.
 fn stand_together(one: &Track, other: &Track) -> bool
     ensures { result ≡ spec.stand_together one.now other.now }
 {
@@ -97,7 +97,7 @@ fn is_same_language(one: &Option<Text>, other: &Option<Text>) -> bool
     }
 }
 
-/// Adds the AdaptationSet of tracks from a place on.
+/// Writes the AdaptationSet of tracks, given the index of the first one.
 fn push_set<S, T: TrackLists<S>, F: Store>(
     alloc: Global,
     lists: &T,
@@ -123,7 +123,7 @@ fn push_set<S, T: TrackLists<S>, F: Store>(
     push_end(sheet, "AdaptationSet", false)
 }
 
-/// The attributes of the AdaptationSet that a track stands in.
+/// The attributes of a track's AdaptationSet.
 fn set_attributes(track: &Track) -> [Attribute<'_>; 2]
     ensures { all_told result ≡ spec.set_attributes track.now }
 {
@@ -153,7 +153,7 @@ fn text(known: &Option<Text>) -> Option<Value<'_>>
     }
 }
 
-/// Adds the Representation of the track at a place (5.3.5).
+/// Writes the Representation of the track at an index (5.3.5).
 fn push_track<S, T: TrackLists<S>, F: Store>(
     alloc: Global,
     lists: &T,
@@ -173,7 +173,7 @@ fn push_track<S, T: TrackLists<S>, F: Store>(
     push_end(sheet, "Representation", false)
 }
 
-/// The attributes of the Representation of the track at a place.
+/// The attributes of the Representation of the track at an index.
 fn track_attributes(place: usize, track: &Track) -> [Attribute<'_>; 6]
     ensures { all_told result ≡ spec.representation_attributes place track.now }
 {

@@ -1,4 +1,4 @@
-// The MPD of a presentation with the times that its files state.
+// The MPD of a presentation with the decode times of its files.
 ghost use Rattle.std.specs.Prelude.{◌≡◌, ◌⊎◌, ◌*◌, ◌<◌, ◌^◌, All, MatchResult, OnErr, OnOk, length, sum};
 ghost use Rattle.bridge_io.specs.Fault.{HasCause};
 ghost use Rattle.bridge_io.specs.Outside.{put, Changes};
@@ -41,15 +41,15 @@ pub type TickSeq = Sequence<u64>;
 pub type TickList = Sequence<TickRun>;
 
 /// Writes the MPD of a presentation that came from playlists with the media times of its segments (ISO/IEC 23009-1, 5.3.9):
-/// as [`write_mpd`](crate::write_mpd) does, but each SegmentList counts in the ticks of its track, and media time is at the
-/// first segment's time where its Period begins: `@presentationTimeOffset` and the first S tell it. A Period lasts as long as
-/// its longest track, rounded up to nanoseconds, and begins where the one before it ends.
+/// as [`write_mpd`](crate::write_mpd) does, but each SegmentList is in the ticks of its track, and the media time of a
+/// Period's start is the first segment's time, in `@presentationTimeOffset` and in the first S. A Period lasts as long as its
+/// longest track, rounded up to nanoseconds, and begins where the one before it ends.
 ///
 /// Requires that the presentation came from playlists, and that there is one run for each section and track, by section, then
-/// by track, of at least 1 tick a second and with an end below 2^63 ticks; that all Periods together last less than 10^19 ns.
-/// The text tells when each segment begins where a run has one duration for each listed segment.
+/// by track, with at least 1 tick per second and with an end below 2^63 ticks; that all Periods together last less than 10^19
+/// ns. The text has each segment's start where a run has one duration for each listed segment.
 ///
-/// An error leaves the file as it was, or a front of the text in it. [`OutFault::WriteFault`] comes only where the store's
+/// An error leaves the file as it was, or with a prefix of the text. [`OutFault::WriteFault`] comes only where the store's
 /// count of failed writes rose.
 pub fn write_mpd_timed<F: Store, L: Ledger>(
     alloc: Global,
@@ -83,7 +83,7 @@ pub fn write_mpd_timed<F: Store, L: Ledger>(
     outline.write(alloc, store, name, steps)
 }
 
-/// The sections, one behind another, of so many tracks each.
+/// The sections, one after another, of `tracks` tracks each.
 fn sections_of(
     alloc: Global,
     count: usize,
@@ -113,7 +113,7 @@ fn sections_of(
     Ok(sections)
 }
 
-/// How long the longest of some tracks lasts, in nanoseconds.
+/// The duration of the longest of some tracks, in nanoseconds.
 fn longest(runs: &[TickRun]) -> u64
     requires ends { All spec.CanBeCounted runs.now }
     requires short { spec.longest runs.now < 10 ^ 19 }
@@ -126,7 +126,7 @@ fn longest(runs: &[TickRun]) -> u64
     longest as u64
 }
 
-/// How long a track's segments last, in nanoseconds, rounded up.
+/// The total duration of a track's segments in nanoseconds, rounded up.
 fn lasting(run: &TickRun) -> u128
     requires { spec.CanBeCounted run.now }
     ensures { result ≡ spec.lasting run.now }
@@ -135,7 +135,7 @@ fn lasting(run: &TickRun) -> u128
     (u128::from(ticks) * 1_000_000_000).div_ceil(u128::from(run.scale))
 }
 
-/// What the tracks of a presentation have in its sections, with the times of their segments.
+/// The contents of the tracks of a presentation in its sections, with the times of their segments.
 #[derive(Clone, Copy)]
 struct TimedLists<'a> {
     presentation: &'a Presentation,
@@ -164,7 +164,7 @@ impl<L: Ledger> TrackLists<Steps<L>> for TimedLists<'_> {
     }
 }
 
-/// Adds the SegmentList of the segments that are listed in a window, with the times that their files state.
+/// Writes the SegmentList of the listed segments in a window, with the decode times of their files.
 fn push_timed<F: Store, L: Ledger>(
     alloc: Global,
     run: &TickRun,

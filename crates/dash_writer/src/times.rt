@@ -13,7 +13,7 @@ use crate::element::{push_end, push_leaf, push_start};
 use bridge_io::{Fail, Sheet, Store};
 use timeline::{Span, TimeWalk};
 
-/// How long segments last, in order.
+/// The durations of segments, in order.
 pub(crate) trait Durations {
     /// The durations that are left, in ticks.
     ghost durations: { Self → List ℕ };
@@ -41,7 +41,7 @@ fn duration_of(span: &Span) -> u128
     (span.end.n - span.start.n).max(0) as u128
 }
 
-/// Durations that are told one by one.
+/// Durations that are given one by one.
 #[derive(Drop)]
 pub(crate) struct Ticks<'a> {
     pub(crate) left: &'a [u64],
@@ -57,19 +57,19 @@ impl Durations for Ticks<'_> {
     }
 }
 
-/// Segments that last equally long, one behind another: S (ISO/IEC 23009-1, 5.3.9.6).
+/// Consecutive segments of equal duration: S (ISO/IEC 23009-1, 5.3.9.6).
 #[derive(Clone, Copy)]
 struct SegmentRun {
-    /// When the first one begins, in ticks, where it is told.
+    /// When the first one begins, in ticks, where it is written.
     time: Option<u64>,
     /// How long each one lasts, in ticks.
     duration: u128,
-    /// How many follow on the first one.
+    /// How many follow the first one.
     repeats: u64,
 }
 
 impl SegmentRun {
-    /// A segment alone.
+    /// A run of one segment.
     fn of(time: Option<u64>, duration: u128) -> SegmentRun
         ensures { result ≡ begun time duration }
     {
@@ -80,7 +80,7 @@ impl SegmentRun {
         }
     }
 
-    /// Takes a segment that lasts so long. Where it is none of the run, the run is added, and a new one begins.
+    /// Adds a segment of this duration. Where it doesn't fit the run, the run is written, and a new one begins.
     fn go_on<F: Store>(self, duration: u128, sheet: &mut Sheet<F>) -> Result<SegmentRun, Fail>
         requires { self.repeats + 1 < 2 ^ 64 }
         ensures adds { Adds F.Store (elements_text (ended self duration)) sheet.old sheet.new result }
@@ -116,7 +116,7 @@ pub(crate) fn number<'a>(number: Option<u64>) -> Option<Value<'a>>
     Some(Value::Number(number?))
 }
 
-/// Adds the SegmentTimeline (5.3.9.6) of segments, of which the first one begins at a time.
+/// Writes the SegmentTimeline (5.3.9.6) of segments, the first of which begins at a time.
 pub(crate) fn push_timeline<D: Durations, F: Store>(
     time: u64,
     durations: &mut D,
@@ -131,7 +131,7 @@ pub(crate) fn push_timeline<D: Durations, F: Store>(
     }
 }
 
-/// Adds the SegmentTimeline of a run and the segments behind it.
+/// Writes the SegmentTimeline of a run and the segments after it.
 fn push_runs<D: Durations, F: Store>(
     first: SegmentRun,
     durations: &mut D,

@@ -7,7 +7,7 @@ pub record IsFloorIn (u : ℕ) (x : Time) (m : ℕ) : Type 0 where
   pub at_most : IsAtMost (in_units u m) x
   pub greatest : (other : ℕ) → IsAtMost (in_units u other) x → other ≤ m
 
--- the greatest number up to the limit that passes the test, 0 where no other does
+-- the greatest number up to the limit that passes the test, or 0
 unfoldable pub greatest_of : (ℕ → Bool) → ℕ → ℕ
 greatest_of test zero = zero
 greatest_of test (suc k) = if test (suc k) then suc k else greatest_of test k
@@ -16,9 +16,8 @@ greatest_of test (suc k) = if test (suc k) then suc k else greatest_of test k
 abbrev pub fits_in : ℕ → Time → ℕ → Bool
 fits_in u x m = int_le (cross (in_units u m) x) (cross x (in_units u m))
 
--- The greatest whole number m with m/u at most x, for a time that is not negative: as its scale is
--- at least 1, no m above |ticks| * u is one. It is the one number that `IsFloorIn` allows, which is
--- what `each_time_has_one_floor` ensures.
+-- The greatest whole number m with m/u at most x, for a non-negative time: as its scale is at least 1, m is at most |ticks|
+-- * u. It is the only number that `IsFloorIn` allows, as `each_time_has_one_floor` ensures.
 unfoldable pub floor_in : ℕ → Time → ℕ
 floor_in u x = greatest_of (fits_in u x) (unsigned_abs x.ticks * u)
 

@@ -1,11 +1,10 @@
--- What holds of times, floors and printed durations.
+-- Laws of times, floors and printed durations.
 use Rattle.std.specs.Prelude.{◌≡◌, ◌↔◌, ◌⊎◌, ℕ, ◌+◌, ◌*◌, ◌<◌, true, List, [], ◌∷◌, ◌++◌, Some, slice_get, sum, take}
 use Rattle.exact_time.specs.Time.{Time, IsTime, IsNotNegative, IsSame, AreSame, IsBefore, IsAtMost, before, at_most, difference, in_units}
 use Rattle.exact_time.specs.{Time.seconds, Floor.{IsFloorIn, floor_in}, Equal.{ends_after, ticks_after}, Rounding.Rounding}
 use Rattle.exact_time.specs.Rounding.{rounding_behind, rounding_from, printed, total, IsRising, AreNear, AreWholeUnits, Calls}
 
--- the order of times is one: it is transitive, any two times stand in it, and those that stand in it
--- both ways are the same time
+-- the order of times is a total order: transitive, total and antisymmetric
 abbrev pub IsTransitive : Type 0
 IsTransitive = (x y z : Time) → IsTime y → IsAtMost x y → IsAtMost y z → IsAtMost x z
 
@@ -18,15 +17,15 @@ IsExclusive = (x y : Time) → IsBefore x y → ¬ IsAtMost y x
 abbrev pub IsAntisymmetric : Type 0
 IsAntisymmetric = (x y : Time) → IsSame x y ↔ (IsAtMost x y × IsAtMost y x)
 
--- the tests tell the order
+-- the tests agree with the order
 abbrev pub TestsTell : Type 0
 TestsTell = (x y : Time) → ((before x y ≡ true) ↔ IsBefore x y) × ((at_most x y ≡ true) ↔ IsAtMost x y)
 
--- a time that is not negative has one floor
+-- a non-negative time has one floor
 abbrev pub HasOneFloor : Type 0
 HasOneFloor = (u : ℕ) (x : Time) (m : ℕ) → IsTime x → IsNotNegative x → IsFloorIn u x m ↔ (m ≡ floor_in u x)
 
--- whatever the calls of a new `Rounder`, the numbers that it gives are the printed durations
+-- whatever the calls of a new `Rounder`, the numbers that it returns are the printed durations
 abbrev pub CallsArePrinted : Type 0
 CallsArePrinted =
     (first : Time) (unit : ℕ) (ends : List Time) (numbers : List ℕ) (last : Rounding) →
@@ -38,32 +37,32 @@ CallsSum =
     (first : Time) (unit : ℕ) (ends : List Time) (numbers : List ℕ) (last : Rounding) →
     Calls (rounding_from first unit) ends numbers last → sum numbers ≡ total last
 
--- and their ends rise, as the other laws ask
+-- and their ends rise, as the other laws require
 abbrev pub CallsRise : Type 0
 CallsRise =
     (first : Time) (unit : ℕ) (ends : List Time) (numbers : List ℕ) (last : Rounding) →
     Calls (rounding_from first unit) ends numbers last → IsRising first ends
 
--- A `Rounder` that goes on behind some ends gives what `printed` gives behind them.
+-- A `Rounder` that continues after some ends returns what `printed` gives after them.
 abbrev pub CallsGoOn : Type 0
 CallsGoOn =
     (first former : Time) (unit : ℕ) (earlier ends : List Time) (numbers : List ℕ) (last : Rounding) →
     Calls (rounding_behind first unit former) ends numbers last →
     printed unit first (earlier ++ former ∷ ends) ≡ printed unit first (earlier ++ former ∷ []) ++ numbers
 
--- ends that rise, each near the one before it, may be given in turn
+-- ends that rise, each near the one before it, are accepted in turn
 abbrev pub CallsAreAllowed : Type 0
 CallsAreAllowed =
     (former end : Time) (ends : List Time) → IsRising former (end ∷ ends) → AreNear former (end ∷ ends) →
     IsAtMost former end × IsAtMost (difference end former) (seconds 2000000) × IsRising end ends × AreNear end ends
 
--- calls and those that go on behind them are calls in turn
+-- calls and those that continue after them are calls in turn
 abbrev pub CallsJoin : Type 0
 CallsJoin =
     (old between new : Rounding) (ends later : List Time) (numbers others : List ℕ) →
     Calls old ends numbers between → Calls between later others new → Calls old (ends ++ later) (numbers ++ others) new
 
--- The ends of equal segments that others follow may be given at once, and behind them the others in turn.
+-- The ends of equal segments may be given at once, and the ends of the segments after them in turn.
 abbrev pub EqualEndsGoOn : Type 0
 EqualEndsGoOn =
     (former : Time) (step count : ℕ) (later : List Time) → let ends = ends_after former step count in let last =
@@ -91,7 +90,7 @@ WholeUnitsStay =
     (u : ℕ) (s : Time) (counts : List ℕ) (ends : List Time) →
     0 < u → IsTime s → AreWholeUnits u s counts ends → printed u s ends ≡ counts
 
--- what is printed depends on the times, and not on how they are written
+-- what is printed depends on the times only, not on how they are written
 abbrev pub SamePrintAlike : Type 0
 SamePrintAlike =
     (u : ℕ) (s t : Time) (xs ys : List Time) →

@@ -1,4 +1,4 @@
--- What a `Rounder` stands for, from its fields, and what it keeps true of them.
+-- The value of a `Rounder` by its fields, and its invariant.
 use Rattle.std.specs.Prelude.{◌≡◌, ◌≤◌, ◌^◌}
 use Rattle.exact_time.specs.{Time.IsAtMost, Tick.time_of, Rounding.{Rounding, total}, declared.rounder.Rounder.TheInside.Inside}
 

@@ -29,8 +29,8 @@ AreWholeUnits u former (count ∷ counts) (end ∷ ends) =
     IsTime end × IsSame (difference end former) (in_units u count) × AreWholeUnits u end counts ends
 AreWholeUnits u former counts ends = ⊥
 
--- what a `Rounder` stands for: where the first segment begins, how many units make a second, and the
--- end of the segment that was printed last, which is `first` before any was
+-- the value of a `Rounder`: where the first segment begins, how many units make a second, and the end of the segment that
+-- was printed last, or `first` before any was
 pub record Rounding : Type 0 where
   pub first : Time
   pub unit : ℕ
@@ -43,11 +43,11 @@ total r = floor_in r.unit (difference r.former r.first)
 abbrev pub rounding_from : Time → ℕ → Rounding
 rounding_from first unit = record { first = first; unit = unit; former = first }
 
--- what goes on behind a segment that ends at `former`
+-- one that continues after a segment that ends at `former`
 abbrev pub rounding_behind : Time → ℕ → Time → Rounding
 rounding_behind first unit former = record { first = first; unit = unit; former = former }
 
--- one call of `next`: `end` is one that it may be given, and `number` what it answers
+-- one call of `next`: `end` is an allowed argument, and `number` the result
 pub record Call (old : Rounding) (end : Time) (number : ℕ) (new : Rounding) : Type 0 where
   pub is_time : IsTime end
   pub not_before : IsAtMost old.former end
@@ -55,7 +55,7 @@ pub record Call (old : Rounding) (end : Time) (number : ℕ) (new : Rounding) : 
   pub printed_next : total old + number ≡ total new
   pub kept : new ≡ record old { former = end }
 
--- calls of `next` in turn, given these ends, answer these numbers
+-- calls of `next` in turn with these ends return these numbers
 abbrev pub Calls : Rounding → List Time → List ℕ → Rounding → Type 0
 Calls old [] [] new = new ≡ old
 Calls old (end ∷ ends) (number ∷ numbers) new =

@@ -1,4 +1,4 @@
--- Times are in one order, and so are ticks: the law that `Ord` asks of an order, whose proof has to stand beside it.
+-- Times have a total order, and so have ticks: the law that `Ord` requires, whose proof has to be in this file.
 use Rattle.std.specs.{Prelude.{◌≡◌, ◌⊎◌, ℕ, ◌+◌, ◌*◌, ◌≤◌}, Cmp.{IsTotalOrder, int_cmp_total, int_cmp_is, int_ranks}}
 use Rattle.std.specs.{Ordering.MatchOrdering, declared.cmp.Ordering.Ordering, declared.cmp.Ordering.TheVariants.{Less, Equal, Greater}}
 use Rattle.std.proofs.{Common.{inl, inr, sym, subst, arith}, lemmas.Int.{ints, by_lt_z}, Math.Nat.{mul-le-mul_left, le_of_mul-le-mul_left}}
@@ -56,7 +56,7 @@ same_is_at_least x y same = omega (arith, ints)
 
 -- ---- `cmp`
 
--- what an answer says of two times
+-- what an `Ordering` says of two times
 abbrev Says : Ordering → Time → Time → Type 0
 Says o x y = MatchOrdering o (IsBefore x y) (IsSame x y) (IsBefore y x)
 
@@ -66,7 +66,7 @@ said o x y e = subst (λ (r : Ordering). Says r x y) e (int_ranks (cross x y) (c
 pub time_cmp_is : (o : Ordering) (x y : Time) → Says o x y → o ≡ time_cmp x y
 time_cmp_is o x y h = int_cmp_is (cross x y) (cross y x) o h
 
--- the same time has the same place
+-- equal times compare alike
 moved : (x y z : Time) → IsTime x → IsTime y → IsSame x y → (o : Ordering) → Says o y z → Says o x z
 moved x y z is_x is_y same Less h = at_most_then_before x y z is_x (same_is_at_most x y same) h
 moved x y z is_x is_y same Equal h = same_from_both x z

@@ -33,7 +33,7 @@ impl Digits {
         }
     }
 
-    /// How many units make a second, a unit being the last decimal: 10 to the number of digits.
+    /// How many units make a second, where a unit is the last decimal: 10 to the power of the number of digits.
     pub fn unit(self) -> u32
         ensures value { result ≡ 10 ^ self }
         ensures low { 10 ^ 3 ≤ result }

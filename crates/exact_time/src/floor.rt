@@ -34,7 +34,7 @@ pub fn floor_ticks(end: Tick, first: Tick, unit: u32) -> u128
     quotient(end.n.abs_diff(first.n) * u128::from(unit), end.scale)
 }
 
-/// A division, in 64 bits where they suffice, which takes a third of the time.
+/// A division, in 64 bits where they suffice: that takes a third of the time.
 fn quotient(number: u128, by: u32) -> u128
     requires { 0 < by }
     ensures { result ≡ number / by }
@@ -54,7 +54,7 @@ fn elapsed(end: Tick, first: Tick) -> u128
     (cross_product(end, first) - cross_product(first, end)) as u128
 }
 
-/// How many steps the length needs: length over step, rounded up.
+/// `length` over `step`, rounded up.
 pub fn ceil_count(length: u128, step: u128) -> u128
     requires { 0 < step }
     ensures { IsCeiling length step result }

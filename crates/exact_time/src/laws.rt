@@ -5,7 +5,8 @@ ghost use Rattle.exact_time.specs.Laws.{IsTransitive, IsTotal, IsExclusive, IsAn
 ghost use Rattle.exact_time.specs.Laws.{CallsSum, CallsRise, CallsGoOn, CallsJoin, CallsAreAllowed, EqualEndsGoOn, SumsAreFloors};
 ghost use Rattle.exact_time.specs.Laws.{SumsStayNear, WholeUnitsStay, SamePrintAlike};
 
-/// Times are in one order, and two that are not apart in it are the same time. The tests tell the order.
+/// Times have a total order, in which two times that are neither before nor after one another are the same. The tests
+/// agree with it.
 pub fn times_are_ordered()
     ensures transitive { IsTransitive }
     ensures total { IsTotal }
@@ -14,24 +15,22 @@ pub fn times_are_ordered()
     ensures tests { TestsTell }
 {}
 
-/// The floor of a time that is not negative is the greatest whole number of units that is not above
-/// it, and nothing else is.
+/// The floor of a non-negative time is the greatest whole number of units that isn't above it, and only that.
 pub fn each_time_has_one_floor()
     ensures { HasOneFloor }
 {}
 
-/// The numbers that a `Rounder` gives from its first call on, whatever the calls, are the printed
-/// durations of segments with these ends. They sum to what it has printed in all, and the ends rise,
-/// as the other laws ask.
+/// The numbers that a new `Rounder` returns, whatever the calls, are the printed durations of segments with these
+/// ends. They sum to its printed total, and the ends rise, as the other laws require.
 pub fn calls_are_printed()
     ensures numbers { CallsArePrinted }
     ensures sums { CallsSum }
     ensures ends { CallsRise }
 {}
 
-/// The numbers that a `Rounder` gives which goes on behind some segments are the printed durations behind theirs. It
-/// may be given all ends of a list in turn that doesn't fall and whose ends lie at most 2,000,000 s apart, also by calls that
-/// take the ends of equal segments at once.
+/// The numbers of a `Rounder` that is resumed after some segments are the printed durations after theirs. It accepts all ends
+/// of a list in turn where the list doesn't fall and its ends are at most 2,000,000 s apart, also in calls that take the ends
+/// of equal segments at once.
 pub fn calls_go_on()
     ensures numbers { CallsGoOn }
     ensures allowed { CallsAreAllowed }
@@ -51,7 +50,7 @@ pub fn whole_units_stay()
     ensures { WholeUnitsStay }
 {}
 
-/// What is printed depends on the times, and not on the fractions that they are written as.
+/// What is printed depends on the times only, not on the fractions that they are written as.
 pub fn same_times_print_alike()
     ensures { SamePrintAlike }
 {}

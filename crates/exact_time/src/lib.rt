@@ -1,8 +1,7 @@
 //! Exact times: fractions of seconds, their order, and durations rounded down without drift.
 //!
-//! A time is a whole number of ticks over a whole number of ticks per second. Nothing here is
-//! floating point, nothing allocates, and every call answers on every argument that its conditions
-//! allow.
+//! A time is a whole number of ticks over a whole number of ticks per second. Nothing here uses floating point or
+//! allocates, and every call returns for every argument that its contract allows.
 #![tactic(auto)]
 
 mod digits;

@@ -59,8 +59,8 @@ impl Rounder {
         }
     }
 
-    /// Goes on behind segments that were printed before, of which the first one began at `first` and the last one
-    /// ended at `former`: the next durations are those that a `Rounder` which printed these too would give. A
+    /// Continues after segments that were printed before, of which the first one began at `first` and the last one
+    /// ended at `former`: the next durations are those that a `Rounder` which printed these too would return. A
     /// playlist that is written again with more segments needs no other state.
     ///
     /// Requires that `former` isn't before `first`.
@@ -80,8 +80,8 @@ impl Rounder {
 
     /// The duration to print, in units, of the next segment, which ends at `end`.
     ///
-    /// Requires that `end` is not before the end of the segment before, and at most 2,000,000 s
-    /// after it. At the first call that end is where the first segment begins.
+    /// Requires that `end` is not before the end of the segment before, and at most 2,000,000 s after it. At the
+    /// first call that end is the start of the first segment.
     pub fn next(&mut self, end: Tick) -> u64
         requires not_before { IsAtMost self.old.former (time_of end) }
         requires near { IsAtMost (difference (time_of end) self.old.former) (seconds 2000000) }
@@ -93,9 +93,9 @@ impl Rounder {
         self.pass(end) as u64
     }
 
-    /// The durations to print of the next `count` segments, where each is `step` ticks long, of which the scale of the former
-    /// end makes a second, and begins where the one before it ends: their sum and the longest one. It divides twice,
-    /// however many they are. They, and what it is afterwards, are those of as many calls of `next`.
+    /// The durations to print for the next `count` segments, each `step` ticks long in the scale of the former end, and each
+    /// beginning where the one before it ends: their sum and the longest one. It divides twice, however many they are. The
+    /// durations, and the state afterwards, are those of as many calls of `next`.
     ///
     /// Requires that each is at most 2,000,000 s long, and that the last one ends before 2^64 ticks.
     pub fn next_equal(&mut self, step: u64, count: u64) -> Equal
@@ -115,7 +115,7 @@ impl Rounder {
         }
     }
 
-    /// Goes on to a later end, and tells how many units are printed up to it.
+    /// Moves on to a later end, and returns how many units are printed up to it.
     #[inline(always)]
     fn pass(&mut self, end: Tick) -> u128
         requires { IsAtMost self.old.former (time_of end) }
@@ -131,7 +131,7 @@ impl Rounder {
         printed
     }
 
-    /// How many whole units there are in so many ticks of the former end's scale.
+    /// How many whole units `step` ticks of the former end's scale have.
     fn whole_units(&self, step: u64) -> u128
         ensures { result ≡ step * self.now.unit / self.now.former.scale }
     {
@@ -139,7 +139,7 @@ impl Rounder {
     }
 }
 
-/// The longest one of so many durations with this sum, of which each one is `least` or one more.
+/// The longest of `count` durations with this sum, each of which is `least` or one more.
 fn longest_of(total: u128, least: u128, count: u64) -> u64
     requires { 0 < count → least < 2 ^ 63 }
     ensures { result ≡ longest_by total least count }
@@ -153,7 +153,7 @@ fn longest_of(total: u128, least: u128, count: u64) -> u64
     }
 }
 
-/// So many ticks after a time.
+/// The time `ticks` ticks later.
 fn later(time: Tick, ticks: u128) -> Tick
     requires { (time.n +ℤ pos ticks) <ℤ pos (2 ^ 64) }
     ensures { time_of result ≡ ticks_after (time_of time) ticks }

@@ -1,4 +1,4 @@
--- Where a presentation's times differ from those that its files state.
+-- Where a presentation's times differ from the decode times of its files.
 use Rattle.std.specs.Prelude.{ℕ, ◌+◌, ◌*◌, ◌+ℤ◌, Bool, List, [], ◌∷◌, length, map, slice_get, if◌then◌else◌, Option, Some, None}
 use Rattle.std.specs.Option.{option_map_or}
 use Rattle.bridge_io.specs.Firsts.{first_some}
@@ -14,11 +14,11 @@ use Rattle.fragment_times.specs.{declared.fault.SegmentSpot.SegmentSpot, declare
 abbrev pub sum_of : Time → Time → Time
 sum_of x y = record { ticks = cross x y +ℤ cross y x; scale = x.scale * y.scale }
 
--- a start from the Period's start on is a media time in ticks
+-- a start, relative to the Period's start, is a media time in ticks
 abbrev pub is_same : (offset : Time) → (scale : ℕ) → Time → ℕ → Bool
 is_same offset scale start time = is_same_time (sum_of start offset) (in_units scale time)
 
--- ---- segments in order, of which the first one is at a spot
+-- ---- segments in order, given the spot of the first one
 
 abbrev pub apart_from : SegmentSpot → (offset : Time) → (scale : ℕ) → List Timing → List ℕ → Option SegmentSpot
 apart_from at offset scale [] times = None
@@ -31,7 +31,7 @@ own_apart at listed content times = apart_from at (offset_of content.runs) times
 
 -- ---- section by section, track by track
 
--- a place without times has nothing
+-- an index without times has nothing
 unfoldable pub apart_at : Presented → List SegmentTimes → (s t : ℕ) → Option SegmentSpot
 apart_at p times s t = option_map_or (λ content. option_map_or
     (own_apart (record { section = s; track = t; segment = 0 }) (listed_at p s t) content) (slice_get times (s * length p.tracks + t)) None)
@@ -40,6 +40,6 @@ apart_at p times s t = option_map_or (λ content. option_map_or
 abbrev pub apart_in : Presented → List SegmentTimes → (s : ℕ) → Option SegmentSpot
 apart_in p times s = first_some (map (apart_at p times s) (tracks_of p))
 
--- the first listed segment whose media time isn't the one that its file states
+-- the first listed segment whose media time isn't the decode time of its file
 abbrev pub first_apart : Presented → List SegmentTimes → Option SegmentSpot
 first_apart p times = first_some (map (apart_in p times) (sections_of p))

@@ -1,4 +1,4 @@
--- How long segments last, by the times that their files state.
+-- The durations of segments, by the decode times of their files.
 use Rattle.std.specs.Prelude.{ℕ, zero, suc, ◌+◌, ◌*◌, ◌-◌, ◌^◌, ◌<◌, max, sum, nat_lt, nat_le, Bool, List, [], ◌∷◌, length, slice_get}
 use Rattle.std.specs.{Prelude.{take, drop, if◌then◌else◌, Option, Some, None, Result, Ok, Err}, Int.div_ceil, Option.option_map_or}
 use Rattle.bridge_io.specs.Answer.{and_then, gathered}
@@ -19,16 +19,16 @@ begun_at at start = record { at = at; start = start }
 abbrev pub next_begun : Begun → (start : ℕ) → Begun
 next_begun begun start = begun_at (next_spot begun.at) start
 
--- a segment lasts up to the start of the next one, which is after its own, and at most 1,000,000 s after it
+-- a segment lasts to the start of the next one, which has to be after its own, by at most 1,000,000 s
 abbrev pub ticks_behind : (scale former : ℕ) → Begun → Result ℕ TimesFault
 ticks_behind scale former begun = if nat_le begun.start former then Err (Segment begun.at Order)
     else (if nat_lt (1000000 * scale) (begun.start - former) then Err (Segment begun.at OutOfRange) else Ok (begun.start - former))
 
--- and the last one so many ticks, where it ends below 2^63
+-- and the last one `last` ticks, where it ends below 2^63
 abbrev pub last_ticks_of : (last : ℕ) → Begun → Result ℕ TimesFault
 last_ticks_of last begun = if nat_le (2 ^ 63) (begun.start + last) then Err (Segment begun.at OutOfRange) else Ok last
 
--- how long a segment lasts, and those behind it that begin at these times
+-- the durations of a segment and of those after it, which begin at these times
 abbrev pub ticks_from : (scale last : ℕ) → Begun → List ℕ → Result (List ℕ) TimesFault
 ticks_from scale last begun [] = and_then (last_ticks_of last begun) (λ ticks. Ok (ticks ∷ []))
 ticks_from scale last begun (start ∷ starts) =
@@ -39,7 +39,7 @@ abbrev pub ticks_of : SegmentSpot → (scale last : ℕ) → List ℕ → Result
 ticks_of at scale last [] = Ok []
 ticks_of at scale last (start ∷ starts) = ticks_from scale last (begun_at at start) starts
 
--- ---- the last one of a section, as the presentation says
+-- ---- the last one of a section, by the presentation
 
 abbrev pub last_behind : Option Timing → List Timing → Option Timing
 last_behind former [] = former
@@ -64,7 +64,7 @@ last_ticks scale (Some x) = ticks_in scale x
 abbrev pub own_ticks : SegmentSpot → List Timing → SegmentTimes → Result (List ℕ) TimesFault
 own_ticks at listed times = ticks_of at times.scale (last_ticks times.scale (last_of listed)) times.starts
 
--- a place without times has nothing
+-- an index without times has nothing
 unfoldable pub ticks_at : Presented → List SegmentTimes → (s t : ℕ) → Result (List ℕ) TimesFault
 ticks_at p times s t = option_map_or (own_ticks (record { section = s; track = t; segment = 0 }) (listed_at p s t))
     (slice_get times (s * length p.tracks + t)) (Ok [])
@@ -90,7 +90,7 @@ longest_behind former (times ∷ others) (ticks ∷ rows) = longest_behind (max 
 abbrev pub longest : List SegmentTimes → List (List ℕ) → ℕ
 longest times rows = longest_behind 0 times rows
 
--- so many sections of so many tracks each
+-- `count` sections of `tracks` tracks each
 abbrev pub lengths : (tracks count : ℕ) → List SegmentTimes → List (List ℕ) → List ℕ
 lengths tracks zero times rows = []
 lengths tracks (suc n) times rows = longest (take tracks times) (take tracks rows) ∷ lengths tracks n (drop tracks times) (drop tracks rows)
@@ -101,7 +101,7 @@ is_too_long p times rows = nat_le (10 ^ 19) (sum (lengths (length p.tracks) (len
 abbrev pub unless_long : Bool → List (List ℕ) → Result (List (List ℕ)) TimesFault
 unless_long long rows = if long then Err Range else Ok rows
 
--- how long all segments last, or the first refusal
+-- the durations of all segments, or the first error
 unfoldable pub durations_of : Presented → List SegmentTimes → Result (List (List ℕ)) TimesFault
 durations_of p times = and_then (all_ticks p times) (λ rows. unless_long (is_too_long p times rows) rows)
 

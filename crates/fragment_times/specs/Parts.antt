@@ -1,4 +1,4 @@
--- Which bytes of files initialization parts and segments are, and what they tell.
+-- The bytes of init segments and segments in files, and the times in them.
 use Rattle.std.specs.Prelude.{ℕ, ◌+◌, ◌-◌, ◌^◌, ◌<◌, min, List, Option, Some, None, Result, Ok, Err, take, drop}
 use Rattle.bridge_io.specs.{Answer.{and_then, told_as}, Outside.Files}
 use Rattle.box_reader.specs.{Boxes.{Found, Left}, Parts.part_of, declared.part.PartFault.PartFault}
@@ -10,7 +10,7 @@ use Rattle.fragment_times.specs.{declared.part.Reach.Reach, Told.{decode_time_of
 
 -- ---- which bytes
 
--- from which one on: no file has more than 2^63
+-- the first one: no file has more than 2^63
 abbrev pub first_byte : Option Range → ℕ
 first_byte None = 0
 first_byte (Some range) = min range.first (2 ^ 63)
@@ -20,17 +20,17 @@ abbrev pub byte_limit : Option Range → ℕ
 byte_limit None = 1048576
 byte_limit (Some range) = min (min range.count 1048576) (2 ^ 63 - min range.first (2 ^ 63))
 
--- what a file has of them
+-- those of them that a file has
 abbrev pub bytes_of : Option Range → (file : List ℕ) → Left
 bytes_of range file = record { at = first_byte range; bytes = take (byte_limit range) (drop (first_byte range) file) }
 
--- ---- what they tell
+-- ---- the times in them
 
 abbrev pub if_named : Option (List ℕ) → Result (List ℕ) TimesFault
 if_named None = Err OutsideBase
 if_named (Some file) = Ok file
 
--- the file of a part, in the store whose folder has a URL
+-- the file of a part, given the URL of the store's folder
 abbrev pub file_of : (folder : List ℕ) → Part → Result (List ℕ) TimesFault
 file_of folder part = if_named (local_name_of folder part.address)
 
@@ -41,17 +41,17 @@ told_of tell range (Some file) = tell (bytes_of range file)
 abbrev pub told_at : (tell : Left → Result ℕ FileFault) → (folder : List ℕ) → Files → Part → Result ℕ TimesFault
 told_at tell folder files part = and_then (file_of folder part) (λ file. told_as (File file) (told_of tell part.range (files file)))
 
--- the timescale that an initialization part states
+-- the timescale of an init segment
 unfoldable pub scale_at : (folder : List ℕ) → Files → Part → Result ℕ TimesFault
 scale_at = told_at media_scale_of
 
--- the decode time that a segment states
+-- the decode time of a segment
 unfoldable pub start_at : (folder : List ℕ) → Files → Part → Result ℕ TimesFault
 start_at = told_at decode_time_of
 
--- ---- the box that tells them
+-- ---- the box that has them
 
--- the first box of a type, in bytes of which the first one stands at a place
+-- the first box of a type, in bytes the first of which is at an offset
 abbrev pub box_from : (kind : List ℕ) → (at : ℕ) → List ℕ → Result Found FileFault
 box_from kind at bytes = first_box kind (record { at = at; bytes = bytes })
 
@@ -59,7 +59,7 @@ abbrev pub box_by : (kind : List ℕ) → (at : ℕ) → Result (List ℕ) PartF
 box_by kind at (Ok bytes) = Ok (box_from kind at bytes)
 box_by kind at (Err fault) = Err fault
 
--- in so many bytes of a file, where it is there
+-- in the reached bytes of a file, where the file exists
 abbrev pub box_of : (kind : List ℕ) → Reach → (file : Option (List ℕ)) → Result (Result Found FileFault) PartFault
 box_of kind reach file = box_by kind reach.first (part_of reach.first reach.limit file)
 

@@ -1,4 +1,4 @@
--- Why the times of files are refused, and which refusal is told.
+-- Why the times of files are rejected, and which error is reported.
 use Rattle.box_reader.specs.declared.head.BoxFault.TheVariants as box
 use Rattle.box_reader.specs.declared.part.PartFault.TheVariants as part
 use Rattle.std.specs.Prelude.{ℕ, ◌+◌, ◌==◌, ◌&&◌, ◌||◌, nat_lt, nat_le, Bool, List, Option, Some, None, Result, if◌then◌else◌, IsErrOf}
@@ -9,7 +9,7 @@ use Rattle.fragment_times.specs.declared.fault.SegmentSpot.{SegmentSpot}
 use Rattle.layer_faults.specs.declared.times.FileFault.TheVariants.{Scale, Order, Range}
 use Rattle.fragment_times.specs.{declared.fault.TimesFault.TimesFault, declared.fault.TimesFault.TheVariants.{File, Fault, Memory}}
 
--- a read that failed and want of memory tell nothing of the files
+-- an I/O error and out of memory say nothing about the files
 abbrev pub refusal : TimesFault → Option TimesFault
 refusal Memory = None
 refusal Fault = None
@@ -25,7 +25,8 @@ part_told file part.Absent = File file Absent
 part_told file part.Fault = Fault
 part_told file part.Memory = Memory
 
--- ---- of several faults of a part that one is told that is tried first, and of one kind the one at the least place
+-- ---- of several faults of a part the one that is tried first is reported, and of the same kind the one at the least
+-- offset
 
 abbrev pub rank : FileFault → ℕ
 rank Absent = 0
@@ -48,6 +49,6 @@ is_sooner one other = nat_lt (rank one) (rank other) || ((rank one == rank other
 abbrev pub sooner : FileFault → FileFault → FileFault
 sooner one other = if is_sooner one other then one else other
 
--- the segment behind one
+-- the next segment
 abbrev pub next_spot : SegmentSpot → SegmentSpot
 next_spot spot = record spot { segment = spot.segment + 1 }

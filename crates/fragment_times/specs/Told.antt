@@ -1,4 +1,4 @@
--- The times that files tell of themselves: ISO/IEC 14496-12, 8.4.2 (`mdhd`) and 8.8.12 (`tfdt`).
+-- The times in media files: ISO/IEC 14496-12, 8.4.2 (`mdhd`) and 8.8.12 (`tfdt`).
 use Rattle.box_reader.specs.declared.head.BoxFault.TheVariants as box
 use Rattle.std.specs.Prelude.{ℕ, ◌+◌, ◌%◌, ◌^◌, ◌==◌, nat_lt, List, codes, length, get_or, count_by, if◌then◌else◌, Option, Some, None, Result}
 use Rattle.std.specs.Prelude.{Ok, Err}
@@ -21,14 +21,14 @@ needed (Err fault) = Err (Boxes fault)
 abbrev pub first_box : (kind : List ℕ) → Left → Result Found FileFault
 first_box kind left = needed (first_in (is_of kind) (boxes_of left))
 
--- the bytes behind a box's header
+-- the bytes after a box's header
 abbrev pub inside : Found → Left
 inside found = record { at = found.head.at + found.head.header; bytes = found.body }
 
 abbrev pub child_of : (kind : List ℕ) → Found → Result Found FileFault
 child_of kind found = first_box kind (inside found)
 
--- ---- a number behind version and flags
+-- ---- a number after version and flags
 
 -- a box is shorter than its fields
 abbrev pub short : Found → FileFault
@@ -46,7 +46,7 @@ u32_in place found = if nat_lt (length found.body) (place + 4) then Err (short f
 abbrev pub u64_in : (place : ℕ) → Found → Result ℕ FileFault
 u64_in place found = if nat_lt (length found.body) (place + 8) then Err (short found) else Ok (u64_at place found.body)
 
--- the timescale of a `mdhd` stands behind two times, of 64 bits each in version 1
+-- the timescale of a `mdhd` follows two times, which have 64 bits each in version 1
 abbrev pub scale_in : Found → Result ℕ FileFault
 scale_in mdhd = and_then (version_of mdhd) (λ version. u32_in (if version == 1 then 20 else 12) mdhd)
 
@@ -65,7 +65,7 @@ track_start moof = and_then (child_of (codes "traf") moof) (λ traf. and_then (c
 
 -- ---- of the one track
 
--- all children are gone over: a fault among them, also behind the first one of a type, or not exactly one of it
+-- all children are visited: a fault among them, also after the first one of a type, or not exactly one of that type
 abbrev pub fault_by : Option BoxFault → (count : ℕ) → Option FileFault
 fault_by (Some fault) count = Some (Boxes fault)
 fault_by None count = if count == 1 then None else Some Tracks
@@ -73,7 +73,7 @@ fault_by None count = if count == 1 then None else Some Tracks
 abbrev pub fault_among : (kind : List ℕ) → Walk → Option FileFault
 fault_among kind walk = fault_by walk.fault (count_by (is_of kind) walk.boxes)
 
--- of a fault among the children, and one of what is told of the first one, that one is told that is tried first
+-- of a fault among the children, and one of the first child itself, the one that is tried first is reported
 abbrev pub unless_among : {X : Type 0} → Option FileFault → Result X FileFault → Result X FileFault
 unless_among None told = told
 unless_among (Some fault) (Ok x) = Err fault
@@ -88,7 +88,7 @@ unless_none scale = if scale == 0 then Err Scale else Ok scale
 abbrev pub unless_late : ℕ → Result ℕ FileFault
 unless_late start = if nat_lt start (2 ^ 63) then Ok start else Err Range
 
--- ---- what a part tells by its first `moov` or `moof`
+-- ---- the times of a part, by its first `moov` or `moof`
 
 abbrev pub scale_by : (moov : Found) → Result ℕ FileFault
 scale_by moov = and_then (alone (codes "trak") moov (track_scale moov)) unless_none
@@ -96,7 +96,7 @@ scale_by moov = and_then (alone (codes "trak") moov (track_scale moov)) unless_n
 abbrev pub start_by : (moof : Found) → Result ℕ FileFault
 start_by moof = and_then (alone (codes "traf") moof (track_start moof)) unless_late
 
--- the timescale of an initialization part's media
+-- the timescale of an init segment's media
 unfoldable pub media_scale_of : Left → Result ℕ FileFault
 media_scale_of left = and_then (first_box (codes "moov") left) scale_by
 

@@ -1,4 +1,4 @@
-// Where a presentation's times differ from those that its files state.
+// Where a presentation's times differ from the decode times of its files.
 ghost use Rattle.std.specs.Prelude.{◌≡◌, ◌==◌, ◌+◌, ◌<◌, ◌^◌, All, length, unsigned_abs};
 ghost use Rattle.exact_time.specs.Tick.{time_of};
 ghost use Rattle.exact_time.specs.Time.{IsNotNegative, in_units};
@@ -12,11 +12,11 @@ use exact_time::Tick;
 use presentation::Presentation;
 use timeline::{TimeWalk, closed_ends};
 
-/// The first listed segment, by section, track and place, whose start with `@presentationTimeOffset` added (ISO/IEC 23009-1,
-/// 5.3.9.2) isn't the decode time that its file states over the timescale of its track's media, as fractions of a second.
+/// The first listed segment, by section, track and index, whose start plus `@presentationTimeOffset` (ISO/IEC 23009-1,
+/// 5.3.9.2) isn't its file's decode time over the timescale of its track's media, as fractions of a second.
 ///
-/// Requires that no segments go on to an open end, and that there are times for each section and track, by section, then by
-/// track.
+/// Requires that no segments continue to an open end, and that there are times for each section and track, by section, then
+/// by track.
 pub fn first_apart(presentation: &Presentation, times: &TimesList) -> Option<SegmentSpot>
     requires ended { All IsEnded presentation.now.contents }
     requires filled { FillPlaces presentation.now (length times.now) }
@@ -30,7 +30,7 @@ pub fn first_apart(presentation: &Presentation, times: &TimesList) -> Option<Seg
     None
 }
 
-/// The same in a section.
+/// The same for a section.
 fn first_in_section(
     presentation: &Presentation,
     times: &[SegmentTimes],
@@ -49,7 +49,7 @@ fn first_in_section(
     None
 }
 
-/// The same of a track in a section.
+/// The same for a track in a section.
 #[tactic(auto, unfolding(crate::specs::Agreeing::apart_at))]
 fn first_of_track(
     presentation: &Presentation,
@@ -80,7 +80,7 @@ fn first_of_track(
     told.first_apart(spot, walk, own.starts.as_slice())
 }
 
-/// The media time of a Period's start, and how many ticks make a second of a file's media.
+/// The media time of a Period's start, and the timescale of a file's media.
 #[derive(Clone, Copy)]
 struct FileClock {
     offset: Tick,
@@ -88,7 +88,7 @@ struct FileClock {
 }
 
 impl FileClock {
-    /// The first of some segments whose time isn't the one that stands in its place. The first one of all is at a spot.
+    /// The first of some segments whose time isn't the one in `starts`. `spot` is that of the first segment.
     fn first_apart(
         self,
         spot: SegmentSpot,
@@ -110,7 +110,7 @@ impl FileClock {
         None
     }
 
-    /// Whether a start from the Period's start on is this media time.
+    /// Whether a start, relative to the Period's start, is this media time.
     fn is_same(self, start: Tick, time: u64) -> bool
         requires { IsNotNegative (time_of self.offset) }
         ensures { result ≡ is_same_time (spec.sum_of (time_of start) (time_of self.offset)) (in_units self.scale time) }
@@ -130,7 +130,7 @@ impl FileClock {
     }
 }
 
-/// How many ticks a time is away from the one that is counted from.
+/// How many ticks a time is away from the origin.
 fn magnitude(tick: Tick) -> u128
     ensures value { result ≡ unsigned_abs tick.n }
     ensures bounded { result < 2 ^ 64 }

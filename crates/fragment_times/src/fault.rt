@@ -1,4 +1,4 @@
-// Why media files tell no times.
+// Why media files give no decode times.
 ghost use Rattle.std.specs.Prelude.{◌≡◌, ◌+◌, ◌<◌, ◌^◌};
 ghost use Rattle.fragment_times.specs.declared.fault.TimesFault.TheVariants.{Memory};
 ghost use Rattle.fragment_times.specs.Refusals as spec;
@@ -8,19 +8,19 @@ use box_reader::{BoxFault, PartFault};
 use bridge_io::{Name, NoMemory};
 use thiserror::Error;
 
-/// A listed segment of a track in a section, each told by its place from 0.
+/// A listed segment of a track in a section, each by its index from 0.
 #[derive(Clone, Copy, Debug, PartialEq, Eq)]
 pub struct SegmentSpot {
-    /// The section's place.
+    /// The section's index.
     pub section: usize,
-    /// The track's place.
+    /// The track's index.
     pub track: usize,
-    /// The segment's place among those that are listed there.
+    /// The segment's index among those that are listed there.
     pub segment: usize,
 }
 
 impl SegmentSpot {
-    /// The spot of the segment behind it.
+    /// The spot of the next segment.
     pub(crate) fn next(self) -> SegmentSpot
         requires { self.segment + 1 < 2 ^ 64 }
         ensures { result ≡ spec.next_spot self }
@@ -30,16 +30,16 @@ impl SegmentSpot {
     }
 }
 
-/// Why media files tell no times.
+/// Why media files give no decode times.
 #[derive(Debug, Drop, Error)]
 pub enum TimesFault {
-    /// A media file's address isn't that of a file in the store's folder.
+    /// A media file's URL isn't that of a file in the store's folder.
     #[error("a media file lies in another place")]
     OutsideBase,
-    /// The media file of this name is refused.
+    /// The media file of this name is rejected.
     #[error("a media file is refused")]
     File(Name, FileFault),
-    /// The media file of this segment is refused, beside the other segments' files.
+    /// The media file of this segment is rejected, given the other segments' files.
     #[error("a segment's time is refused")]
     Segment(SegmentSpot, FileFault),
     /// All Periods together last 10^19 ns or more.
@@ -48,7 +48,7 @@ pub enum TimesFault {
     /// A read failed.
     #[error("a media file can't be read")]
     Fault,
-    /// Memory is wanting.
+    /// Out of memory.
     #[error("out of memory")]
     Memory,
 }
@@ -72,7 +72,8 @@ pub(crate) fn at_part(fault: PartFault, file: Name) -> TimesFault
     }
 }
 
-/// Which of two faults of a file is told: the one that is tried first, and of one kind the one at the least place.
+/// Which of two faults of a file is reported: the one that is tried first, and of the same kind the one at the least
+/// offset.
 pub(crate) fn sooner(one: FileFault, other: FileFault) -> FileFault
     ensures { result ≡ spec.sooner one other }
 {
@@ -85,7 +86,7 @@ fn is_sooner(one: &FileFault, other: &FileFault) -> bool
     rank(one) < rank(other) || (rank(one) == rank(other) && place(one) <= place(other))
 }
 
-/// A fault's place in the order in which faults are tried.
+/// A fault's rank in the order in which faults are tried.
 fn rank(fault: &FileFault) -> u8
     ensures { result ≡ spec.rank fault.now }
 {
@@ -101,7 +102,7 @@ fn rank(fault: &FileFault) -> u8
     }
 }
 
-/// The place in the file that a fault tells, or 0.
+/// The byte offset of a fault, or 0.
 fn place(fault: &FileFault) -> u64
     ensures { result ≡ spec.place fault.now }
 {

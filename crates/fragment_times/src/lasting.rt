@@ -1,4 +1,4 @@
-// How long segments last, by the times that their files state.
+// The durations of segments, by the decode times of their files.
 ghost use Rattle.std.specs.Prelude.{◌≡◌, ◌+◌, ◌-◌, ◌*◌, ◌/◌, ◌<◌, ◌≤◌, ◌^◌, All, IfOk, IfSome, length, option_map, pos, sum, unsigned_abs};
 ghost use Rattle.bridge_io.specs.Answer.{Gives};
 ghost use Rattle.exact_time.specs.Tick.{time_of};
@@ -17,28 +17,28 @@ use presentation::Presentation;
 use std::alloc::Global;
 use timeline::{Span, closed_ends};
 
-/// How many seconds a segment lasts at most.
+/// The longest duration of a segment, in seconds.
 const MOST_SECONDS: u64 = 1_000_000;
 
-/// Below how many nanoseconds all Periods together last.
+/// The exclusive upper bound of the total duration of all Periods, in nanoseconds.
 const MOST_NANOS: u128 = 10_000_000_000_000_000_000;
 
 /// Numbers of ticks, one for each segment.
 pub type TickSeq = Sequence<u64>;
 
-/// How long all segments last: by section, then by track.
+/// The durations of all segments: by section, then by track.
 pub type DurationsList = Sequence<TickSeq>;
 
-/// How many ticks each segment lasts by the times that the files state: up to the next one's start, and the last one of a
-/// section as long as the presentation says, rounded down to whole ticks, at least one.
+/// How many ticks each segment lasts, by the decode times of the files: up to the next one's start, and the last one of a
+/// section as long as in the presentation, rounded down to whole ticks, at least one.
 ///
-/// The refusals are told of a segment: Order where it doesn't begin after the one before it, and Range where it begins more than
+/// The faults of a segment are: `Order` where it doesn't begin after the one before it, and `Range` where it begins more than
 /// 1,000,000 s after that one, or is the last one and doesn't end below 2^63 ticks. They are tried by section, by track, and
-/// segment by segment. At the end Range is told of all Periods, where they last 10^19 ns or more: a Period lasts as long as its
-/// longest track, rounded up to nanoseconds.
+/// segment by segment. At the end, `Range` is returned for all Periods together, where they last 10^19 ns or more: a Period
+/// lasts as long as its longest track, rounded up to nanoseconds.
 ///
-/// Requires that no segments go on to an open end, and that there are times for each section and track, by section, then by
-/// track, with at least one tick a second.
+/// Requires that no segments continue to an open end, and that there are times for each section and track, by section, then by
+/// track, with at least one tick per second.
 #[tactic(auto, unfolding(crate::specs::Durations::durations_of))]
 pub fn durations(
     alloc: Global,
@@ -62,7 +62,7 @@ pub fn durations(
     Ok(durations)
 }
 
-/// A presentation and what the files of its segments state.
+/// A presentation and the times of its segments' files.
 #[derive(Clone, Copy)]
 struct Lasting<'a> {
     presentation: &'a Presentation,
@@ -70,7 +70,7 @@ struct Lasting<'a> {
 }
 
 impl Lasting<'_> {
-    /// How long all segments last.
+    /// The durations of all segments.
     fn all(&self, alloc: Global) -> Result<DurationsList, TimesFault>
         requires ended { All IsEnded self.now.presentation.now.contents }
         requires filled { FillPlaces self.now.presentation.now (length self.now.times.now) }
@@ -86,7 +86,7 @@ impl Lasting<'_> {
         Ok(durations)
     }
 
-    /// Adds how long the segments of a section last, track by track.
+    /// Adds the durations of a section's segments, track by track.
     fn with_section(
         &self,
         alloc: Global,
@@ -111,7 +111,7 @@ impl Lasting<'_> {
         Ok(durations)
     }
 
-    /// How long the segments of a track in a section last.
+    /// The durations of a track's segments in a section.
     #[tactic(auto, unfolding(crate::specs::Durations::ticks_at))]
     fn track_ticks(
         &self,
@@ -137,7 +137,7 @@ impl Lasting<'_> {
         ticks_of(alloc, at, own.scale, last, own.starts.as_slice())
     }
 
-    /// How many ticks the last listed segment of a track in a section lasts, as the presentation says.
+    /// How many ticks the last listed segment of a track in a section lasts, by the presentation.
     fn last_ticks(&self, section: usize, track: usize, scale: u32) -> u64
         requires ended { All IsEnded self.now.presentation.now.contents }
         requires section { section < length self.now.presentation.now.sections }
@@ -194,7 +194,7 @@ impl Lasting<'_> {
     }
 }
 
-/// How long the longest of some tracks lasts, in nanoseconds.
+/// The duration of the longest of some tracks, in nanoseconds.
 fn longest(times: &[SegmentTimes], durations: &[TickSeq]) -> u128
     requires as_many { length durations.now ≡ length times.now }
     requires scaled { All IsScaled times.now }
@@ -210,7 +210,7 @@ fn longest(times: &[SegmentTimes], durations: &[TickSeq]) -> u128
     longest
 }
 
-/// How long segments last in all, in nanoseconds, rounded up.
+/// The total duration of segments in nanoseconds, rounded up.
 fn nanos_of(scale: u32, ticks: &[u64]) -> u128
     requires positive { 0 < scale }
     requires short { spec.IsShort ticks.now }
@@ -220,7 +220,7 @@ fn nanos_of(scale: u32, ticks: &[u64]) -> u128
     (u128::from(total(ticks)) * 1_000_000_000).div_ceil(u128::from(scale))
 }
 
-/// How many ticks segments last in all.
+/// The total duration of segments in ticks.
 fn total(ticks: &[u64]) -> u64
     requires { spec.IsShort ticks.now }
     ensures { result ≡ sum ticks.now }
@@ -228,7 +228,8 @@ fn total(ticks: &[u64]) -> u64
     ticks.iter().sum()
 }
 
-/// How long segments last that begin at these times, the last one so many ticks. The first one is at a spot.
+/// The durations of segments that begin at these times; the last one lasts `last` ticks. `at` is the spot of the
+/// first one.
 fn ticks_of(
     alloc: Global,
     at: SegmentSpot,
@@ -256,7 +257,7 @@ struct Begun {
 }
 
 impl Begun {
-    /// How long it lasts, and those behind it that begin at these times.
+    /// The durations of it and of those after it, which begin at these times.
     fn ticks_up_to(
         self,
         alloc: Global,
@@ -280,7 +281,7 @@ impl Begun {
         Ok(ticks)
     }
 
-    /// The segment behind it.
+    /// The next segment.
     fn next(self, start: u64) -> Begun
         requires { self.at.segment + 1 < 2 ^ 64 }
         ensures { result ≡ spec.next_begun self start }
@@ -291,7 +292,7 @@ impl Begun {
         }
     }
 
-    /// How long the segment before it lasts.
+    /// The duration of the segment before it.
     fn ticks_behind(self, former: u64, scale: u32) -> Result<u64, TimesFault>
         ensures ticks { result ≡ spec.ticks_behind scale former self }
         ensures rises { IfOk result (λ ticks. former + ticks ≡ self.start) }
@@ -307,7 +308,7 @@ impl Begun {
         Ok(ticks)
     }
 
-    /// How long it lasts as the last one, unless it ends too late.
+    /// Its duration as the last one, unless it ends too late.
     fn last_ticks(self, last: u64) -> Result<u64, TimesFault>
         ensures ticks { result ≡ spec.last_ticks_of last self }
         ensures ends { IfOk result (λ ticks. self.start + ticks < 2 ^ 63) }
@@ -320,7 +321,7 @@ impl Begun {
     }
 }
 
-/// How many ticks a listed segment lasts, of which so many make a second, rounded down, and at least one.
+/// How many ticks of a timescale a listed segment lasts, rounded down, at least one.
 fn ticks_in(span: &Span, scale: u32) -> u64
     requires { IsWithinLimits (timing_of span.now) }
     ensures { result ≡ spec.ticks_in scale (timing_of span.now) }
@@ -329,7 +330,7 @@ fn ticks_in(span: &Span, scale: u32) -> u64
     floor(elapsed(span), second, scale).max(1)
 }
 
-/// A time over the parts of a second in units of which so many make a second, rounded down.
+/// `elapsed / second` seconds in units of which `scale` make a second, rounded down.
 fn floor(elapsed: u128, second: u64, scale: u32) -> u64
     requires some { 0 < second }
     requires bounded { elapsed ≤ 1000000 * second }
@@ -338,7 +339,7 @@ fn floor(elapsed: u128, second: u64, scale: u32) -> u64
     (elapsed * u128::from(scale) / u128::from(second)) as u64
 }
 
-/// How long a listed segment lasts, over the product of the scales of its end and its start.
+/// The duration of a listed segment, over the product of the scales of its end and its start.
 fn elapsed(span: &Span) -> u128
     requires { IsWithinLimits (timing_of span.now) }
     ensures exact { (spec.lasting_of (timing_of span.now)).ticks ≡ pos result }

@@ -1,6 +1,6 @@
-//! The times that media files tell of themselves (ISO/IEC 14496-12, 8.4.2 and 8.8.12), beside those that a presentation tells.
+//! The decode times of media files (ISO/IEC 14496-12, 8.4.2 and 8.8.12), compared with the times of a presentation.
 //!
-//! Of a part of a file only the first bytes are read: those up to the end of the one box that tells its time.
+//! Of a part of a file only the first bytes are read: those up to the end of the one box that has its time.
 #![tactic(auto)]
 
 mod agreement;

@@ -1,4 +1,4 @@
-// The listed segments of which files tell the times.
+// The listed segments whose files are read.
 ghost use Rattle.std.specs.Prelude.{◌≡◌, ◌<◌, All, length};
 ghost use Rattle.presentation.specs.Laws.{HasAddress};
 ghost use Rattle.presentation.specs.Listable.{AreListable};
@@ -8,9 +8,9 @@ ghost use Rattle.fragment_times.specs.Times.{IsTimelineAt};
 use presentation::Presentation;
 use timeline::{Listing, closed_ends};
 
-/// The listed segments of a track in a section, from the first one on. It takes no memory.
+/// The listed segments of a track in a section, from the first one on. It allocates nothing.
 ///
-/// Requires that the section and the track are in range, and that each listed segment has an address, as
+/// Requires that the section and the track are in range, and that each listed segment has a URL, as
 /// [`presentation::playlists_can_be_listed`] says of a presentation that came from playlists.
 pub fn listing_at(presentation: &Presentation, section: usize, track: usize) -> Listing<'_>
     requires listable { AreListable presentation.now }

@@ -1,4 +1,4 @@
-// The parts of files that initialization parts and segments are.
+// The files or byte ranges of init segments and segments.
 ghost use Rattle.std.specs.Prelude.{◌≡◌, ◌≤◌, ◌<◌, ◌+◌, ◌^◌, length, true, IfOk};
 ghost use Rattle.std.specs.Option.{ForSome};
 ghost use Rattle.bridge_io.specs.Answer.{Gives};
@@ -18,24 +18,24 @@ use bridge_io::{Bytes, Name, Store};
 use std::alloc::Global;
 use url_parts::{Base, Part, Range, local_name};
 
-/// How many bytes are read of a part at first.
+/// How many bytes of a part are read first.
 const FRONT: u64 = 65_536;
 
-/// How many bytes are read of a part at most.
+/// The most bytes of a part that are read.
 const MOST_BYTES: u64 = 1_048_576;
 
-/// How many bytes a file has at most.
+/// The most bytes of a file.
 const PLACES: u64 = 1 << 63;
 
-/// Which bytes of a file are read at most.
+/// The bytes of a file that may be read.
 #[derive(Clone, Copy)]
 struct Reach {
     first: u64,
     limit: u64,
 }
 
-/// The bytes that are read of a part: of a whole file from the first one on, of a range no more than it has, and either way
-/// at most 1,048,576 of the first 2^63 of a file.
+/// The bytes of a part that may be read: for a whole file from the first one on, for a byte range only those in it, and
+/// either way at most 1,048,576 of the first 2^63 of a file.
 fn reach_of(range: Option<Range>) -> Reach
     ensures first { result.first ≡ spec.first_byte range }
     ensures limit { result.limit ≡ spec.byte_limit range }
@@ -55,7 +55,7 @@ fn reach_of(range: Option<Range>) -> Reach
     }
 }
 
-/// The timescale that an initialization part states.
+/// The timescale of an init segment.
 #[tactic(auto, unfolding(crate::specs::Parts::scale_at, crate::specs::Told::media_scale_of))]
 pub(crate) fn scale_at<F: Store>(
     alloc: Global,
@@ -77,7 +77,7 @@ pub(crate) fn scale_at<F: Store>(
     }
 }
 
-/// The decode time that a segment states.
+/// The decode time of a segment.
 #[tactic(auto, unfolding(crate::specs::Parts::start_at, crate::specs::Told::decode_time_of))]
 pub(crate) fn start_at<F: Store>(
     alloc: Global,
@@ -109,7 +109,7 @@ fn file_of(alloc: Global, folder: &Base, part: &Part) -> Result<Name, TimesFault
     }
 }
 
-/// What is told of a file, or that it is refused.
+/// A result for a file, with the file's name in the error.
 fn in_file<X: Copy>(file: Name, told: Result<X, FileFault>) -> Result<X, TimesFault>
     ensures { result ≡ told_as (File file) told }
 {
@@ -119,7 +119,7 @@ fn in_file<X: Copy>(file: Name, told: Result<X, FileFault>) -> Result<X, TimesFa
     }
 }
 
-/// Reads bytes of a file: no more than its first 65,536 where its first box of a type ends before those do.
+/// Reads bytes of a file: only the first 65,536 where the first box of a type ends within them.
 fn read_to_box<F: Store>(
     alloc: Global,
     store: &mut F,
@@ -150,7 +150,7 @@ fn read_to_box<F: Store>(
     Ok(bytes)
 }
 
-/// Whether the first box of a type ends before some bytes do, the first of which stands at a place of a file.
+/// Whether the first box of a type ends before some bytes do, the first of which is at offset `first` of a file.
 fn ends_within(bytes: &[u8], first: u64, kind: [u8; 4]) -> bool
     requires { first + length bytes.now ≤ 2 ^ 63 }
     ensures { result ≡ true → spec.EndsWithin (first + length bytes.now) (spec.box_from kind first bytes.now) }

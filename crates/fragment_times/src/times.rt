@@ -1,4 +1,4 @@
-// The times of all segments of a presentation, as their files state them.
+// The decode times of all segments of a presentation, by their files.
 ghost use Rattle.std.specs.Prelude.{◌≡◌, ◌+◌, ◌*◌, ◌<◌, ◌^◌, All, IfOk, MatchResult, MatchOption, length};
 ghost use Rattle.std.specs.Option.{ForSome};
 ghost use Rattle.bridge_io.specs.Answer.{Gives};
@@ -20,10 +20,10 @@ use std::alloc::Global;
 use timeline::{ListFault, Listing, Segment};
 use url_parts::Base;
 
-/// What the files of a track in a section state.
+/// The times of the files of a track in a section.
 #[derive(Drop)]
 pub struct SegmentTimes {
-    /// How many ticks make a second, at least 1.
+    /// The timescale: ticks per second, at least 1.
     pub scale: u32,
     /// When each listed segment begins, in ticks.
     pub starts: StartList,
@@ -32,19 +32,19 @@ pub struct SegmentTimes {
 /// Times in ticks, one for each segment, below 2^63.
 pub type StartList = Sequence<u64>;
 
-/// What all files state: by section, then by track.
+/// The times of all files: by section, then by track.
 pub type TimesList = Sequence<SegmentTimes>;
 
-/// The media times of a presentation's listed segments as their files state them: of each track in each section the timescale
-/// that its initialization part states (ISO/IEC 14496-12, 8.4.2), and the decode time of each segment's first sample (8.8.12).
-/// `folder` is the URL of the store's folder.
+/// The media times of a presentation's listed segments by their files: for each track in each section the timescale of its
+/// init segment (ISO/IEC 14496-12, 8.4.2), and the decode time of each segment's first sample (8.8.12). `folder` is the URL of
+/// the store's folder.
 ///
-/// Of a whole file at most the first 1,048,576 bytes are read, and of a range no more than so many of it; where the first
-/// 65,536 of these have the box that tells the time whole, no others. The store's files stay as they are.
+/// At most the first 1,048,576 bytes of a whole file are read, and of a byte range at most as many; where the first 65,536 of
+/// these contain the whole box that has the time, no others. The store's files stay as they are.
 ///
-/// The parts are taken by section, then by track, the initialization part first and then the segments in order. OutsideBase
-/// comes before what is told of a file, whose faults come in the order of [`FileFault`](crate::FileFault). Fault comes only
-/// where the store's count of failed reads rose.
+/// The parts are read by section, then by track, the init segment first and then the segments in order. `OutsideBase` comes
+/// before the faults of a file, which come in the order of [`FileFault`](crate::FileFault). `Fault` comes only where the
+/// store's count of failed reads rose.
 ///
 /// Requires that the presentation came from playlists, or from a static MPD and was verified.
 #[tactic(auto, unfolding(crate::specs::Times::times_of))]
@@ -75,7 +75,7 @@ pub fn fragment_times<F: Store, L: Ledger>(
     Ok(times)
 }
 
-/// A presentation whose files are read, and the URL of the store's folder.
+/// A presentation whose files are being read, and the URL of the store's folder.
 #[derive(Clone, Copy)]
 struct Reading<'a> {
     presentation: &'a Presentation,
@@ -83,7 +83,7 @@ struct Reading<'a> {
 }
 
 impl Reading<'_> {
-    /// Adds what the files of a section state, track by track.
+    /// Adds the times of the files of a section, track by track.
     fn with_section<F: Store, L: Ledger>(
         &self,
         alloc: Global,
@@ -111,7 +111,7 @@ impl Reading<'_> {
         Ok(times)
     }
 
-    /// What the files of a track in a section state.
+    /// The times of the files of a track in a section.
     #[tactic(auto, unfolding(crate::specs::Times::times_at))]
     fn track_times<F: Store, L: Ledger>(
         &self,
@@ -138,7 +138,7 @@ impl Reading<'_> {
         Ok(SegmentTimes { scale, starts })
     }
 
-    /// The decode times that the segments state that are left.
+    /// The decode times of the remaining segments.
     fn starts<F: Store, L: Ledger>(
         &self,
         alloc: Global,
@@ -162,7 +162,7 @@ impl Reading<'_> {
     }
 }
 
-/// Makes the next segment of those that all have addresses.
+/// Makes the next segment of those that all have URLs.
 fn next_segment<L: Ledger>(
     alloc: Global,
     listing: &mut Listing<'_>,

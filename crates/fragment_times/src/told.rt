@@ -1,4 +1,4 @@
-// What the boxes of a part tell.
+// Reading the boxes of a part.
 ghost use Rattle.std.specs.Prelude.{◌≡◌, ◌≤◌, ◌<◌, ◌+◌, ◌^◌, length, IfOk};
 ghost use Rattle.box_reader.specs.Boxes.{boxes_of};
 ghost use Rattle.fragment_times.specs.Told as spec;
@@ -7,8 +7,8 @@ use crate::FileFault;
 use crate::fault::sooner;
 use box_reader::{BoxFault, Boxes, FileBox, OfType, u32_at, u64_at};
 
-/// The timescale that an initialization part states for the media of its one track, by these bytes, the first of which stands
-/// at a place of the file (ISO/IEC 14496-12, 8.4.2).
+/// The timescale of an init segment for the media of its one track, by these bytes, the first of which is at offset `first`
+/// of the file (ISO/IEC 14496-12, 8.4.2).
 ///
 /// Requires that the bytes lie in the first 2^63 of a file.
 #[tactic(auto, unfolding(crate::specs::Told::media_scale_of))]
@@ -25,7 +25,8 @@ pub(crate) fn media_scale(bytes: &[u8], first: u64) -> Result<u32, FileFault>
     Ok(scale)
 }
 
-/// The decode time of a segment's first sample, by these bytes, the first of which stands at a place of the file (8.8.12).
+/// The decode time of a segment's first sample, by these bytes, the first of which is at offset `first` of the file
+/// (8.8.12).
 ///
 /// Requires that the bytes lie in the first 2^63 of a file.
 #[tactic(auto, unfolding(crate::specs::Told::decode_time_of))]
@@ -63,7 +64,7 @@ fn track_start(moof: &FileBox<'_>) -> Result<u64, FileFault>
     }
 }
 
-/// What is told of the first one of a box's children of a type, unless it isn't the one child of this type.
+/// The result for the first of a box's children of a type, unless it isn't the only child of this type.
 fn alone<X: Copy>(
     found: &FileBox<'_>,
     kind: [u8; 4],
@@ -78,7 +79,7 @@ fn alone<X: Copy>(
     }
 }
 
-/// Why a box hasn't exactly one child of a type. All its children are gone over.
+/// Why a box doesn't have exactly one child of a type. All its children are visited.
 fn fault_among(found: &FileBox<'_>, kind: [u8; 4]) -> Option<FileFault>
     ensures { result ≡ spec.fault_among kind (boxes_of (spec.inside found.now)) }
 {
@@ -129,7 +130,7 @@ fn version_of(found: &FileBox<'_>) -> Result<u8, FileFault>
     Ok(body[0])
 }
 
-/// The number of 32 bits at a place behind a box's header.
+/// The 32-bit number at an offset after a box's header.
 fn u32_in(found: &FileBox<'_>, place: usize) -> Result<u32, FileFault>
     requires { place < 2 ^ 32 }
     ensures { result ≡ spec.u32_in place found.now }
@@ -141,7 +142,7 @@ fn u32_in(found: &FileBox<'_>, place: usize) -> Result<u32, FileFault>
     Ok(u32_at(body, place))
 }
 
-/// The number of 64 bits at a place behind a box's header.
+/// The 64-bit number at an offset after a box's header.
 fn u64_in(found: &FileBox<'_>, place: usize) -> Result<u64, FileFault>
     requires { place < 2 ^ 32 }
     ensures { result ≡ spec.u64_in place found.now }

@@ -6,7 +6,7 @@ use Rattle.hls_follow.specs.{declared.state.TimedSegment.TimedSegment, Times.tim
 abbrev pub is_of : ℕ → TimedSegment → Bool
 is_of section t = section == t.segment.section
 
--- a segment in front of the groups of those behind it
+-- a segment added before the groups of those after it
 abbrev pub put_before : TimedSegment → List (List TimedSegment) → List (List TimedSegment)
 put_before t [] = (t ∷ []) ∷ []
 put_before t ([] ∷ groups) = (t ∷ []) ∷ groups
@@ -18,7 +18,7 @@ abbrev pub groups_of : List TimedSegment → List (List TimedSegment)
 groups_of [] = []
 groups_of (t ∷ rest) = put_before t (groups_of rest)
 
--- what a track, or each track, has in the section at a place
+-- the segments of a track, or of each track, in the section at an index
 abbrev pub group_at : ℕ → List (List TimedSegment) → List TimedSegment
 group_at place groups = unwrap_or (slice_get groups place) []
 

@@ -1,4 +1,4 @@
--- The Periods of a live presentation (ISO/IEC 23009-1, 5.3.2): one for each section that is listed.
+-- The Periods of a live presentation (ISO/IEC 23009-1, 5.3.2): one for each listed section.
 use Rattle.std.specs.Prelude.{ℕ, ◌+◌, ◌^◌, ◌==◌, nat_le, max, List, [], ◌∷◌, if◌then◌else◌, Option, Some, None, Result, Ok, Err}
 use Rattle.bridge_io.specs.Answer.{and_then}
 use Rattle.url_parts.specs.declared.address.Part.{Part}
@@ -8,7 +8,7 @@ use Rattle.layer_faults.specs.declared.live.LiveFault.TheVariants.{Limit, NoMap}
 use Rattle.hls_follow.specs.{declared.periods.Extent.Extent, declared.state.TimedSegment.TimedSegment, Groups.{row_at, row_end}}
 use Rattle.hls_follow.specs.Times.{last_in}
 
--- ---- what a track has in a section
+-- ---- the content of a track in a section
 
 abbrev pub live_segment : TimedSegment → LiveSegment
 live_segment t = record { address = t.segment.address; range = t.segment.range; time = t.time; duration = t.segment.duration }
@@ -41,11 +41,11 @@ known_in number [] = None
 known_in number (p ∷ periods) = if p.number == number then Some
     (record { start = p.start; longest = p.longest }) else known_in number periods
 
--- less than 10^19 nanoseconds behind the presentation's start
+-- less than 10^19 nanoseconds after the presentation's start
 abbrev pub within_limit : (start longest : ℕ) → Result Extent LiveFault
 within_limit start longest = if nat_le (10 ^ 19) (start + longest) then Err Limit else Ok (record { start = start; longest = longest })
 
--- A section keeps its start, and the latest end that was ever known in it; one seen first begins where the one before it ends.
+-- A section keeps its start, and the latest end that it ever had; a new one begins where the one before it ends.
 abbrev pub extent_of : Option Extent → (former longest : ℕ) → Result Extent LiveFault
 extent_of (Some known) former longest = within_limit known.start (max known.longest longest)
 extent_of None former longest = within_limit former longest
@@ -67,12 +67,12 @@ abbrev pub period_with : (number : ℕ) → Extent → List (List TimedSegment) 
 period_with number extent row = and_then (runs_of row) (λ runs. Ok
     (record { number = number; start = extent.start; longest = extent.longest; runs = runs }))
 
--- the Period of a section, behind what ends at some time
+-- the Period of a section, after what ends at some time
 abbrev pub period_of : List LivePeriod → (former number : ℕ) → List (List TimedSegment) → Result LivePeriod LiveFault
 period_of known former number row = and_then (extent_of (known_in number known) former (row_end row))
     (λ extent. period_with number extent row)
 
--- the Periods of sections, which the tracks have at the places from one on
+-- the Periods of sections, from an index on
 abbrev pub periods_from : List LivePeriod → List (List (List TimedSegment)) → (former place : ℕ) → List ℕ
     → Result (List LivePeriod) LiveFault
 periods_from known tracks former place [] = Ok []

@@ -1,4 +1,4 @@
--- A round of playlists behind those that were accepted (RFC 8216, 6.2; ISO/IEC 23009-1, 5.3).
+-- A snapshot of playlists after those that were accepted (RFC 8216, 6.2; ISO/IEC 23009-1, 5.3).
 use Rattle.std.specs.Prelude.{ℕ, max, Bool, List, [], ◌∷◌, map, if◌then◌else◌, Option, Some, None, Result, Ok, Err, ℤ, pos, neg_ℤ, ◌-ℤ◌}
 use Rattle.std.specs.{Prelude.{◌*ℤ◌, int_lt}, Int.int_div_euclid, List.list_all}
 use Rattle.bridge_io.specs.Answer.{and_then}
@@ -13,7 +13,7 @@ use Rattle.hls_follow.specs.{declared.state.TimedSegment.TimedSegment, Groups.gr
 use Rattle.hls_follow.specs.{Periods.{last_end, periods_from}, Rules.{appended_from, common_sections, judged_all, judged_at, judged_count}}
 use Rattle.hls_follow.specs.{Rules.{judged_reload, judged_section, judged_segments}, Times.timed_all}
 
--- ---- the presentation as it is told at an instant
+-- ---- the presentation by a snapshot
 
 -- rounded down to milliseconds
 abbrev pub whole_millis : ℤ → ℤ
@@ -25,7 +25,7 @@ from_1583 start = if int_lt start (neg_ℤ (pos 12_212_553_600_000_000_000)) the
 abbrev pub first_start : (now : ℤ) → (end : ℕ) → Result ℤ LiveFault
 first_start now end = from_1583 (whole_millis (now -ℤ pos end))
 
--- When the presentation begins: what the first accepted round lists ends at that round's instant, and this stays.
+-- When the presentation begins: what the first accepted snapshot lists ends at that snapshot's time; this never changes.
 abbrev pub start_of : Option Followed → (now : ℤ) → List LivePeriod → Result ℤ LiveFault
 start_of (Some former) now periods = Ok former.mpd.start
 start_of None now periods = first_start now (last_end periods)
@@ -35,7 +35,7 @@ abbrev pub target_of : List Source → ℕ
 target_of [] = 0
 target_of (s ∷ kept) = max s.media.target (target_of kept)
 
--- no playlist goes on
+-- all playlists have EXT-X-ENDLIST
 abbrev pub are_ended : List Source → Bool
 are_ended kept = list_all (λ (s : Source). s.media.ended) kept
 
@@ -52,7 +52,7 @@ mpd_of start now periods kept = record {
 abbrev pub mpd_or_fault : Option Followed → (now : ℤ) → List LivePeriod → List Source → Result LiveMpd LiveFault
 mpd_or_fault former now periods kept = and_then (start_of former now periods) (λ start. Ok (mpd_of start now periods kept))
 
--- ---- what a round leaves
+-- ---- the state after a snapshot
 
 abbrev pub times_in : List TimedSegment → List ℕ
 times_in timed = map (λ (t : TimedSegment). t.time) timed
@@ -78,7 +78,7 @@ placed_of former now flags kept sections =
     and_then (periods_from (periods_of former) (map groups_of timed) (last_end (periods_of former)) 0 sections)
     (followed_at former now flags kept timed))
 
--- what is judged of the kept tracks, in order; they have these sections
+-- the checks of the kept tracks, in order, and their sections
 unfoldable pub judged_tracks : List FollowedTrack → List Source → Result (List ℕ) LiveFault
 judged_tracks formers kept =
     and_then (judged_segments kept) (λ _.
@@ -94,13 +94,13 @@ abbrev pub followed_by : Option Followed → (now : ℤ) → List Source → Res
 followed_by former now all =
     and_then (judged_tracks (formers_of former) (kept_in former all)) (placed_of former now (flags_of former all) (kept_in former all))
 
--- What a round leaves behind those that were accepted, or why it is refused.
+-- The state after a snapshot that follows the accepted ones, or why it is rejected.
 unfoldable pub followed_of : List MasterTrack → Option Followed → (now : ℤ) → List Media → Result Followed LiveFault
 followed_of tracks former now medias = and_then (judged_at former now) (λ _. followed_by former now (sources tracks medias))
 
 -- ---- the whole
 
--- a master's tracks, and what the accepted rounds left
+-- a master playlist's tracks, and the state after the accepted snapshots
 pub record Following : Type 0 where
   pub tracks : List MasterTrack
   pub followed : Option Followed
@@ -108,6 +108,6 @@ pub record Following : Type 0 where
 unfoldable pub next_of : Following → (now : ℤ) → List Media → Result Following LiveFault
 next_of f now medias = and_then (followed_of f.tracks f.followed now medias) (λ next. Ok (record f { followed = Some next }))
 
--- how many segments a round has whose numbers are past every one that was accepted for their track
+-- how many segments of a snapshot have sequence numbers above all accepted ones of their track
 unfoldable pub appended_by : Following → List Media → ℕ
 appended_by f medias = appended_from (formers_of f.followed) 0 (kept_in f.followed (sources f.tracks medias))

@@ -1,4 +1,4 @@
--- What is refused of a round, rule by rule.
+-- Checks of a snapshot, rule by rule.
 use Rattle.layer_faults.specs.declared.hls.HlsFault.TheVariants as hls
 use Rattle.std.specs.Prelude.{ℕ, ◌+◌, ◌-◌, ◌==◌, ◌||◌, nat_eq, nat_lt, Bool, List, [], ◌∷◌, length, map, slice_get, sum_by, if◌then◌else◌}
 use Rattle.std.specs.{Prelude.{Option, Some, None, Result, Ok, Err, ℤ, int_lt}, Cmp.Lexicographic.pointwise, List.list_all}
@@ -14,9 +14,9 @@ use Rattle.layer_faults.specs.declared.live.LiveFault.TheVariants.{Ended, ClockB
 use Rattle.layer_faults.specs.declared.live.LiveFault.TheVariants.{ZeroDuration, SectionsDiffer, NoTracks, Unlawful, SectionBack, Limit}
 use Rattle.hls_follow.specs.{declared.state.Followed.Followed, declared.state.FollowedTrack.FollowedTrack, Faults.refused_if, Times.last_in}
 
--- ---- the instant
+-- ---- the time
 
--- nothing follows where every playlist was ended, nor earlier than the last accepted round
+-- nothing may follow where every playlist had EXT-X-ENDLIST, nor be earlier than the last accepted snapshot
 abbrev pub judged_at : Option Followed → ℤ → Result (Unit {0}) LiveFault
 judged_at None now = Ok tt
 judged_at (Some former) now =
@@ -24,7 +24,7 @@ judged_at (Some former) now =
 
 -- ---- the segments of one track
 
--- all that is refused of segments are these three
+-- segments have only these three errors
 abbrev pub fault_of_track : HlsFault → LiveFault
 fault_of_track hls.NoMap = NoMap
 fault_of_track hls.MapChanged = MapChanged
@@ -39,7 +39,7 @@ judged_segments (s ∷ sources) = and_then (judged_segments_of s.media) (λ _. j
 
 -- ---- sections
 
--- the section numbers of segments, behind those of a section
+-- the section numbers of segments, after those of a section
 abbrev pub sections_behind : Option ℕ → List MediaSegment → List ℕ
 sections_behind former [] = []
 sections_behind former (s ∷ segments) =
@@ -57,23 +57,23 @@ sections_in (s ∷ sources) = sections_of s.media
 abbrev pub has_sections : List ℕ → Source → Bool
 has_sections sections s = pointwise nat_eq sections (sections_of s.media)
 
--- the section numbers that all tracks have: there are some
+-- the section numbers that all tracks have, at least one
 abbrev pub common_sections : List Source → Result (List ℕ) LiveFault
 common_sections kept =
     if list_all (has_sections (sections_in kept)) kept
     then (if length (sections_in kept) == 0 then Err NoTracks else Ok (sections_in kept))
     else Err SectionsDiffer
 
--- ---- the round before
+-- ---- the previous snapshot
 
--- each track is judged by its place and its last playlist
+-- each track is checked, with its index and its last playlist
 abbrev pub judged_all : (ℕ → Option FollowedTrack → Media → Result (Unit {0}) LiveFault) → List FollowedTrack → (place : ℕ)
     → List Source → Result (Unit {0}) LiveFault
 judged_all judge formers place [] = Ok tt
 judged_all judge formers place (s ∷ kept) =
     and_then (judge place (slice_get formers place) s.media) (λ _. judged_all judge formers (place + 1) kept)
 
--- the first rule that is broken, but that on three target durations, which is the last one
+-- the first rule that is broken, except that on three target durations, which is the last one
 abbrev pub reload_told : (track : ℕ) → Result (Unit {0}) Rule → Result (Unit {0}) LiveFault
 reload_told track (Ok done) = Ok tt
 reload_told track (Err ThreeTargets) = Ok tt
@@ -83,11 +83,11 @@ abbrev pub judged_reload : (track : ℕ) → Option FollowedTrack → Media → 
 judged_reload track None media = Ok tt
 judged_reload track (Some former) media = reload_told track (lawful former.media media)
 
--- how many numbers stand before the end of the playlist before
+-- how many sequence numbers are before the end of the previous playlist
 abbrev pub known_in : (former new : Media) → ℕ
 known_in former new = end_of former - new.sequence
 
--- the segments behind the last number of the round before
+-- the segments after the last sequence number of the previous snapshot
 abbrev pub new_segments : Option FollowedTrack → Media → List MediaSegment
 new_segments None media = media.segments
 new_segments (Some former) media = segments_from (end_of former.media) media
@@ -111,7 +111,7 @@ count_of kept = sum_by (λ (s : Source). length s.media.segments) kept
 abbrev pub judged_count : (sections : List ℕ) → List Source → Result (Unit {0}) LiveFault
 judged_count sections kept = refused_if (nat_lt 500_000 (count_of kept) || nat_lt 1_000 (length sections)) Limit
 
--- how many segments are past every number that was accepted
+-- how many segments have sequence numbers above all accepted ones
 abbrev pub appended_from : List FollowedTrack → (place : ℕ) → List Source → ℕ
 appended_from formers place [] = 0
 appended_from formers place (s ∷ kept) = length (new_segments (slice_get formers place) s.media) + appended_from formers (place + 1) kept

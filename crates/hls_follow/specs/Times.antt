@@ -9,29 +9,29 @@ use Rattle.layer_faults.specs.declared.live.LiveFault.{LiveFault}
 use Rattle.layer_faults.specs.declared.live.LiveFault.TheVariants.{Limit}
 use Rattle.hls_follow.specs.{declared.state.FollowedTrack.FollowedTrack, declared.state.TimedSegment.TimedSegment, declared.state.Last.Last}
 
--- the last of a list
+-- the last member of a list
 abbrev pub last_in : {X : Type 0} → List X → Option X
 last_in xs = slice_get xs (length xs - 1)
 
--- the time that the round before gave to a sequence number
+-- the time of a sequence number in the previous snapshot
 abbrev pub former_time : Option FollowedTrack → (number : ℕ) → Option ℕ
 former_time None number = None
 former_time (Some former) number = if nat_lt number former.media.sequence then None else slice_get former.times
     (number - former.media.sequence)
 
--- a segment behind which others come: the number behind its own, its section, and when it begins there
+-- the last segment before new ones: the sequence number after its own, its section, and its start there
 abbrev pub last_at : (next : ℕ) → Option MediaSegment → Option ℕ → Option Last
 last_at next (Some s) (Some time) = Some (record { next = next; section = s.section; time = time; duration = s.duration })
 last_at next (Some s) None = None
 last_at next None time = None
 
--- the last segment of the round before
+-- the last segment of the previous snapshot
 abbrev pub last_of : Option FollowedTrack → Option Last
 last_of None = None
 last_of (Some former) = last_at (end_of former.media) (last_in former.media.segments) (last_in former.times)
 
--- A new segment begins where the one before it ends, behind the numbers that were missed, each of which lasts a target duration. No
--- section comes back, so that one which isn't that segment's is a new one and begins with it.
+-- A new segment begins where the one before it ends, after the sequence numbers that were missed, each of which lasts a target
+-- duration. No section comes back, so a section other than that segment's is a new one and begins with it.
 abbrev pub new_time : (target number section : ℕ) → Option Last → ℕ
 new_time target number section None = 0
 new_time target number section (Some last) =
@@ -44,14 +44,14 @@ behind_segment number time s = record { next = number + 1; section = s.section; 
 abbrev pub time_of : Option FollowedTrack → (target number section : ℕ) → Option Last → ℕ
 time_of former target number section last = unwrap_or (former_time former number) (new_time target number section last)
 
--- the times of segments, of which the first has a sequence number
+-- the times of segments, given the sequence number of the first one
 abbrev pub timed_from : Option FollowedTrack → (target number : ℕ) → Option Last → List MediaSegment → List TimedSegment
 timed_from former target number last [] = []
 timed_from former target number last (s ∷ segments) =
     let time = time_of former target number s.section last in
     record { segment = s; time = time } ∷ timed_from former target (number + 1) (Some (behind_segment number time s)) segments
 
--- A playlist's segments with their times, from their sections' starts on.
+-- A playlist's segments with their times, relative to their sections' starts.
 unfoldable pub timed_of : Option FollowedTrack → Media → List TimedSegment
 timed_of former media = timed_from former media.target media.sequence (last_of former) media.segments
 
@@ -70,7 +70,7 @@ timed_within s time = if nat_le (2 ^ 63) (time + s.duration) then Err Limit else
 abbrev pub unless_late : List TimedSegment → Result (List TimedSegment) LiveFault
 unless_late timed = if list_any is_late timed then Err Limit else Ok timed
 
--- the kept tracks' segments, from a place on, each with the track's last playlist
+-- the kept tracks' segments, from an index on, given each track's last playlist
 abbrev pub timed_all : List FollowedTrack → (place : ℕ) → List Source → Result (List (List TimedSegment)) LiveFault
 timed_all formers place [] = Ok []
 timed_all formers place (s ∷ kept) = and_then (unless_late (timed_of (slice_get formers place) s.media))

@@ -1,4 +1,4 @@
-// A live presentation that is followed.
+// Following a live HLS presentation.
 ghost use Rattle.std.specs.Prelude.{◌≡◌, ◌<◌, ◌^◌, All, length, map, IfOk, IsSome, OnErr, option_map, Some};
 ghost use Rattle.bridge_io.specs.Answer.{Gives};
 ghost use Rattle.iso_time.specs.Instant.{IsReadable};
@@ -18,10 +18,10 @@ use iso_time::Instant;
 use std::alloc::Global;
 use std::marker::Model;
 
-/// A live presentation whose playlists are read again and again.
+/// A live presentation whose playlists are read repeatedly.
 ///
-/// In a contract it is the master's tracks and what the accepted rounds left: which tracks are kept, their last playlists with the
-/// times of their segments, and the MPD.
+/// In a contract it is the master's tracks and the state after the accepted snapshots: which tracks are kept, their last playlists
+/// with the times of their segments, and the MPD.
 #[derive(Drop)]
 pub struct Follow {
     alloc: Global,
@@ -42,12 +42,13 @@ impl Model for Follow {
     ghost invariant = { λ f. ForSome f.followed IsSound };
 }
 
-/// How many segments an accepted round appended, of all kept tracks: those whose numbers are past every one before.
+/// How many segments an accepted snapshot appended, of all kept tracks: those whose sequence numbers are above all
+/// earlier ones.
 #[derive(Clone, Copy, PartialEq, Eq)]
 pub struct Appended(pub u64);
 
 impl Follow {
-    /// The presentation of a master, of which no round was accepted.
+    /// The presentation of a master playlist, before the first snapshot.
     pub fn new(alloc: Global, master: Master) -> Result<Follow, NoMemory>
         ensures { IfOk result (λ f. f ≡ record { tracks = master; followed = None }) }
     {
@@ -58,11 +59,11 @@ impl Follow {
         })
     }
 
-    /// Takes a round: one media playlist for each of the master's tracks, in their order, as they were at an instant. The first
-    /// accepted one leaves out for good the text tracks that have a segment without map. Any refusal leaves all as it was; they
-    /// come in the order of [`LiveFault`].
+    /// Accepts a snapshot: one media playlist for each of the master's tracks, in order, as they were at one time. The first
+    /// accepted one drops, for good, the text tracks that have a segment without map. Any error leaves the state as it was;
+    /// errors come in the order of [`LiveFault`].
     ///
-    /// Requires that the playlists are bounded as those are that are read (`hls_media::what_is_read_is_bounded`).
+    /// Requires that the playlists are bounded as those that were read (`hls_media::what_is_read_is_bounded`).
     pub fn accept(&mut self, now: Instant, medias: &MediaFiles) -> Result<Appended, LiveFault>
         requires now { IsReadable now }
         requires one_each { length medias.now ≡ length self.old.tracks }
@@ -82,9 +83,9 @@ impl Follow {
         Ok(Appended(appended))
     }
 
-    /// The MPD that the last accepted round left. It takes no memory.
+    /// The MPD after the last accepted snapshot. It allocates nothing.
     ///
-    /// Requires that a round was accepted.
+    /// Requires that a snapshot was accepted.
     pub fn view(&self) -> &LiveMpd
         requires { IsSome self.now.followed }
         ensures mpd { option_map (λ f. f.mpd) self.now.followed ≡ Some result.now }

@@ -40,7 +40,7 @@ impl<'a> Groups<'a> {
         Ok(Groups { groups })
     }
 
-    /// What the track has in the section at a place.
+    /// The segments of the track in the section at an index.
     pub(crate) fn at(&self, place: usize) -> Group<'a>
         ensures { result.now ≡ spec.group_at place self.now }
     {
@@ -65,7 +65,7 @@ pub(crate) fn groups_of_all<'a>(
     Ok(groups)
 }
 
-/// How many segments in front are of this section.
+/// How many leading segments are in this section.
 fn count_of(section: u64, segments: &[TimedSegment]) -> usize
     ensures { result ≡ prefix_len (spec.is_of section) segments.now }
 {
@@ -79,7 +79,7 @@ fn count_of(section: u64, segments: &[TimedSegment]) -> usize
     count
 }
 
-/// When the longest track ends in the section at a place, in nanoseconds from its start on.
+/// When the longest track ends in the section at an index, in nanoseconds relative to its start.
 pub(crate) fn row_end(tracks: &[Groups<'_>], place: usize) -> u128
     ensures end { result ≡ spec.row_end (spec.row_at tracks.now place) }
     ensures near { result < 2 ^ 66 }

@@ -10,7 +10,7 @@ use dash_writer::LivePeriod;
 use hls_presentation::{Source, is_left_out};
 use std::alloc::Global;
 
-/// The tracks as the last accepted round left them.
+/// The tracks after the last accepted snapshot.
 pub(crate) fn formers_of(former: Option<&Followed>) -> &[FollowedTrack]
     ensures { result.now ≡ spec.formers_of (option_copied former.entry) }
 {
@@ -20,7 +20,7 @@ pub(crate) fn formers_of(former: Option<&Followed>) -> &[FollowedTrack]
     }
 }
 
-/// The Periods of the last accepted round.
+/// The Periods of the last accepted snapshot.
 pub(crate) fn periods_of(former: Option<&Followed>) -> &[LivePeriod]
     ensures { result.now ≡ spec.periods_of (option_copied former.entry) }
 {
@@ -30,7 +30,7 @@ pub(crate) fn periods_of(former: Option<&Followed>) -> &[LivePeriod]
     }
 }
 
-/// Which tracks are kept: all but the text tracks that the first accepted round leaves out for good.
+/// Which tracks are kept: all except the text tracks that the first accepted snapshot drops for good.
 pub(crate) fn flags_of(
     alloc: Global,
     former: Option<&Followed>,
@@ -62,7 +62,7 @@ fn first_flags(alloc: Global, sources: &[Source<'_>]) -> Result<KeptList, NoMemo
     Ok(flags)
 }
 
-/// The tracks that are kept.
+/// The kept tracks.
 pub(crate) fn kept_by<'a>(
     alloc: Global,
     mut flags: &[bool],

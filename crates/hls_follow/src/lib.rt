@@ -1,4 +1,4 @@
-//! Live playlists that are followed, and what they are as the MPD of a live presentation (RFC 8216, 6.2; ISO/IEC 23009-1, 5.3).
+//! Following live playlists, and their MPD (RFC 8216, 6.2; ISO/IEC 23009-1, 5.3).
 #![tactic(auto)]
 
 mod follow;

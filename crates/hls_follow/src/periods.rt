@@ -1,4 +1,4 @@
-// The Periods of a round.
+// The Periods of a snapshot.
 ghost use Rattle.std.specs.Prelude.{◌≡◌, ◌<◌, ◌^◌, All, length, IfOk};
 ghost use Rattle.bridge_io.specs.Answer.{Gives};
 ghost use Rattle.hls_follow.specs.Faults.{told};
@@ -14,14 +14,15 @@ use exact_time::Nanos;
 use std::alloc::Global;
 use url_parts::Part;
 
-/// When a section begins, and when its longest track ends, from its start on.
+/// When a section begins, and when its longest track ends, relative to its start.
 #[derive(Clone, Copy)]
 pub(crate) struct Extent {
     pub(crate) start: Nanos,
     pub(crate) longest: Nanos,
 }
 
-/// The Periods of sections, of which the tracks have one at each place. `known` are those of the last accepted round.
+/// The Periods of sections; the tracks have one section at each index. `known` are the Periods of the last accepted
+/// snapshot.
 pub(crate) fn periods_of(
     alloc: Global,
     known: &[LivePeriod],
@@ -44,7 +45,7 @@ pub(crate) fn periods_of(
     Ok(periods)
 }
 
-/// The Period of the section at a place, behind what ends at `former`.
+/// The Period of the section at an index, after what ends at `former`.
 fn period_of(
     alloc: Global,
     known: &[LivePeriod],
@@ -82,7 +83,7 @@ fn known_in(number: u64, periods: &[LivePeriod]) -> Option<Extent>
     None
 }
 
-/// When a section begins and ends that comes behind what ends at `former`, and of which a track ends at `longest` now.
+/// When a section begins and ends, after what ends at `former`, where its longest track now ends at `longest`.
 fn extent_of(known: Option<Extent>, former: u128, longest: u128) -> Result<Extent, LiveFault>
     requires former { former < 2 ^ 66 }
     requires longest { longest < 2 ^ 66 }
@@ -129,7 +130,7 @@ fn end_of(period: &LivePeriod) -> u128
     u128::from(period.start.0) + u128::from(period.longest.0)
 }
 
-/// What the tracks have in the section at a place.
+/// The contents of the tracks in the section at an index.
 fn runs_of(alloc: Global, tracks: &[Groups<'_>], place: usize) -> Result<LiveRunList, LiveFault>
     ensures runs { Gives (λ runs. runs) told result (spec.runs_of (row_at tracks.now place)) }
     ensures filled { IfOk result (λ runs. length runs ≡ length tracks.now) }

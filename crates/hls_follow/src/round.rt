@@ -1,4 +1,4 @@
-// What a round of playlists leaves.
+// Accepting a snapshot of playlists.
 ghost use Rattle.std.specs.Prelude.{◌≡◌, ◌<◌, ◌≤◌, ◌^◌, All, length, map, IfOk, IfSome};
 ghost use Rattle.std.specs.Option.{option_copied};
 ghost use Rattle.bridge_io.specs.Answer.{Gives};
@@ -30,16 +30,16 @@ use hls_presentation::{Source, sources_of, tracks_of};
 use iso_time::Instant;
 use std::alloc::Global;
 
-/// What an accepted round leaves.
+/// The result of an accepted snapshot.
 #[derive(Drop)]
 pub(crate) struct Round {
-    /// What is followed from there on.
+    /// The new state.
     pub(crate) followed: Followed,
     /// How many segments it appended.
     pub(crate) appended: u64,
 }
 
-/// What a round leaves behind those that were accepted, or why it is refused.
+/// The result of a snapshot after those that were accepted, or why it is rejected.
 #[tactic(auto, unfolding(crate::specs::Rounds::followed_of))]
 pub(crate) fn follow_round(
     alloc: Global,
@@ -86,7 +86,7 @@ fn follow_sources(
     Ok(Round { followed, appended })
 }
 
-/// The sections of the kept tracks, or the first refusal of them.
+/// The sections of the kept tracks, or their first error.
 #[tactic(auto, unfolding(crate::specs::Rounds::judged_tracks))]
 fn judge_tracks(
     alloc: Global,
@@ -106,7 +106,7 @@ fn judge_tracks(
     Ok(sections)
 }
 
-/// The times and the Periods of what was judged, which has these sections.
+/// The times and the Periods of checked playlists with these sections.
 #[tactic(auto, unfolding(crate::specs::Rounds::placed_of))]
 fn place(
     alloc: Global,
@@ -178,7 +178,7 @@ fn start_of(
     }
 }
 
-/// The instant that is so many nanoseconds earlier, rounded down to milliseconds.
+/// The timestamp `end` nanoseconds earlier, rounded down to milliseconds.
 fn first_start(now: Instant, end: u128) -> Result<Instant, LiveFault>
     requires now { IsReadable now }
     requires near { end < 2 ^ 66 }
@@ -203,7 +203,7 @@ fn target_of(kept: &[Source<'_>]) -> u64
     target
 }
 
-/// Whether no playlist goes on.
+/// Whether all playlists have EXT-X-ENDLIST.
 fn are_ended(kept: &[Source<'_>]) -> bool
     ensures { result ≡ spec.are_ended (map source_of kept.now) }
 {

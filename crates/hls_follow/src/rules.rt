@@ -1,4 +1,4 @@
-// What is refused of a round, rule by rule.
+// Checks of a snapshot, rule by rule.
 ghost use Rattle.std.specs.Prelude.{◌≡◌, ◌<◌, ◌≤◌, ◌^◌, All, map, IfOk, IfSome};
 ghost use Rattle.std.specs.List.{list_all};
 ghost use Rattle.std.specs.Option.{option_copied};
@@ -21,7 +21,7 @@ use std::alloc::Global;
 /// Section numbers in order.
 pub(crate) type SectionList = Sequence<u64>;
 
-/// Whether a round may come at an instant.
+/// Checks the time of a snapshot.
 pub(crate) fn check_now(former: Option<&Followed>, now: Instant) -> Result<(), LiveFault>
     ensures { result ≡ spec.judged_at (option_copied former.entry) now }
 {
@@ -40,7 +40,7 @@ pub(crate) fn check_now(former: Option<&Followed>, now: Instant) -> Result<(), L
     Ok(())
 }
 
-/// The first refusal of the tracks' segments.
+/// The first error of the tracks' segments.
 pub(crate) fn check_tracks(kept: &[Source<'_>]) -> Result<(), LiveFault>
     ensures { result ≡ spec.judged_segments (map source_of kept.now) }
 {
@@ -119,7 +119,7 @@ fn sections_of(alloc: Global, media: &Media) -> Result<SectionList, NoMemory>
     Ok(sections)
 }
 
-/// Whether each track's playlist may take its former one's place.
+/// Whether each track's playlist is a valid update of its previous one.
 pub(crate) fn check_reloads(formers: &[FollowedTrack], kept: &[Source<'_>]) -> Result<(), LiveFault>
     requires early { All IsEarly formers.now }
     requires bounded { AreBounded (map source_of kept.now) }
@@ -151,7 +151,7 @@ fn check_reload(
     }
 }
 
-/// Whether each track goes on in no section before that of its last segment.
+/// Whether no track continues in a section before that of its last segment.
 pub(crate) fn check_sections(
     formers: &[FollowedTrack],
     kept: &[Source<'_>],
@@ -187,7 +187,7 @@ fn check_section(
     }
 }
 
-/// The segments behind the last number of the round before.
+/// The segments after the last sequence number of the previous snapshot.
 fn new_segments<'a>(former: Option<&FollowedTrack>, media: &'a Media) -> &'a [MediaSegment]
     ensures { result.now ≡ spec.new_segments (option_copied former.entry) media.now }
 {
@@ -203,7 +203,7 @@ fn new_segments<'a>(former: Option<&FollowedTrack>, media: &'a Media) -> &'a [Me
     }
 }
 
-/// How many numbers of a playlist stand before the end of the one before.
+/// How many sequence numbers of a playlist are before the end of the previous one.
 fn known_in(former: &Media, media: &Media) -> u128
     ensures { result ≡ spec.known_in former.now media.now }
 {
@@ -211,7 +211,7 @@ fn known_in(former: &Media, media: &Media) -> u128
     end.saturating_sub(u128::from(media.sequence))
 }
 
-/// Whether there are few enough sections and segments.
+/// Checks the limits of sections and segments.
 pub(crate) fn check_count(sections: &[u64], kept: &[Source<'_>]) -> Result<(), LiveFault>
     ensures { result ≡ spec.judged_count sections.now (map source_of kept.now) }
 {
@@ -231,7 +231,7 @@ fn count_of(kept: &[Source<'_>]) -> u128
     count
 }
 
-/// How many segments are past every number that was accepted.
+/// How many segments have sequence numbers above all accepted ones.
 pub(crate) fn appended_by(formers: &[FollowedTrack], kept: &[Source<'_>]) -> u64
     requires { spec.count_of (map source_of kept.now) ≤ 500_000 }
     ensures { result ≡ spec.appended_from formers.now 0 (map source_of kept.now) }

@@ -1,4 +1,4 @@
-// What the accepted rounds left.
+// The state after the accepted snapshots.
 use bridge_io::Sequence;
 use dash_writer::LiveMpd;
 use exact_time::Nanos;
@@ -9,25 +9,25 @@ use hls_media::{Media, MediaSegment};
 pub(crate) struct FollowedTrack {
     /// The playlist.
     pub(crate) media: Media,
-    /// When its segments begin, in nanoseconds from their sections' starts on.
+    /// When its segments begin, in nanoseconds relative to their sections' starts.
     pub(crate) times: TimeList,
 }
 
 /// Times in order.
 pub(crate) type TimeList = Sequence<u64>;
 
-/// What the accepted rounds left.
+/// The state after the accepted snapshots.
 #[derive(Drop)]
 pub(crate) struct Followed {
     /// Which of the master's tracks are kept.
     pub(crate) kept: KeptList,
     /// Those tracks.
     pub(crate) tracks: FollowedList,
-    /// The last round's MPD.
+    /// The last snapshot's MPD.
     pub(crate) mpd: LiveMpd,
 }
 
-/// Which tracks are kept, by their places.
+/// Which tracks are kept, by index.
 pub(crate) type KeptList = Sequence<bool>;
 
 /// Kept tracks in order.
@@ -38,21 +38,21 @@ pub(crate) type FollowedList = Sequence<FollowedTrack>;
 pub(crate) struct TimedSegment {
     /// The segment.
     pub(crate) segment: MediaSegment,
-    /// When it begins, in nanoseconds from its section's start on.
+    /// When it begins, in nanoseconds relative to its section's start.
     pub(crate) time: u64,
 }
 
 /// The segments of a playlist in order.
 pub(crate) type TimedList = Sequence<TimedSegment>;
 
-/// A segment behind which others come.
+/// The last segment before new ones.
 #[derive(Clone, Copy)]
 pub(crate) struct Last {
-    /// The number behind its own.
+    /// The sequence number after its own.
     pub(crate) next: u128,
     /// Its section.
     pub(crate) section: u64,
-    /// When it begins, in nanoseconds from its section's start on.
+    /// When it begins, in nanoseconds relative to its section's start.
     pub(crate) time: u64,
     /// How long it lasts.
     pub(crate) duration: Nanos,

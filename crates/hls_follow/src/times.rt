@@ -109,7 +109,7 @@ fn time_of(
     }
 }
 
-/// The time that the round before gave to a sequence number.
+/// The time of a sequence number in the previous snapshot.
 fn former_time(former: Option<&FollowedTrack>, number: u64) -> Option<u64>
     ensures { result ≡ spec.former_time (option_copied former.entry) number }
 {
@@ -136,7 +136,7 @@ fn new_time(target: u64, number: u64, section: u64, last: Option<Last>) -> u128
     }
 }
 
-/// The last segment of the round before.
+/// The last segment of the previous snapshot.
 pub(crate) fn last_of(former: Option<&FollowedTrack>) -> Option<Last>
     ensures { result ≡ spec.last_of (option_copied former.entry) }
 {

@@ -27,21 +27,21 @@ ends_value b = b == 34 || b == 44 || b == 32 || b == 9 || b == 10 || b == 13
 abbrev pub is_name : List ℕ → Bool
 is_name name = not (length name == 0) && list_all is_name_byte name
 
--- a value without quotes at the front of a text, and what follows it
+-- the leading unquoted value of a text, and what follows it
 abbrev pub plain_value : List ℕ → Option (List ℕ × List ℕ)
 plain_value text = let size = unwrap_or (position ends_value text) (length text) in
     if size == 0 then None else Some (take size text, drop size text)
 
--- a value whose quote was found at the front of a text, or else one without quotes
+-- a value after its leading quote, or else an unquoted one
 abbrev pub value_behind : Option (List ℕ) → List ℕ → Option (List ℕ × List ℕ)
 value_behind (Some quoted) text = parts_at is_quote quoted
 value_behind None text = plain_value text
 
--- a value at the front of a text, and what follows it
+-- the leading value of a text, and what follows it
 abbrev pub value_at : List ℕ → Option (List ℕ × List ℕ)
 value_at text = value_behind (after_mark 34 text) text
 
--- an attribute at the front of a text, and what follows it, from its name and what follows its `=`
+-- the leading attribute of a text, and what follows it, by its name and what follows its `=`
 abbrev pub attribute_with : List ℕ × List ℕ → Option (NameValue × List ℕ)
 attribute_with parts = if is_name parts.0 then option_map (λ found. ((parts.0, found.0), found.1)) (value_at parts.1) else None
 
@@ -52,22 +52,22 @@ attribute_at text = option_and_then attribute_with (parts_at is_equals text)
 unfoldable pub after_comma : List ℕ → Option (List ℕ)
 after_comma text = option_map without_spaces (after_mark 44 (without_spaces text))
 
--- nothing, or a comma and more
+-- the end, or a comma and more
 abbrev pub more_by : (List ℕ → Option (List NameValue)) → List ℕ → Option (List NameValue)
 more_by read [] = Some []
 more_by read (b ∷ bs) = option_and_then read (after_comma (b ∷ bs))
 
--- one or more attributes, joined by commas, of which there are at most so many
+-- one or more attributes, joined by commas, at most a number of them
 abbrev pub attributes_in : ℕ → List ℕ → Option (List NameValue)
 attributes_in zero text = None
 attributes_in (suc most) text =
     option_and_then (λ first. option_map (λ others. first.0 ∷ others) (more_by (attributes_in most) first.1)) (attribute_at text)
 
--- the attributes of a whole text, which are fewer than its bytes
+-- the attributes of a whole text, fewer than its bytes
 unfoldable pub attributes_at : List ℕ → Option (List NameValue)
 attributes_at text = attributes_in (length text) text
 
--- some name stands among those before it
+-- a name is repeated
 abbrev pub repeats_after : List (List ℕ) → List (List ℕ) → Bool
 repeats_after before [] = false
 repeats_after before (name ∷ names) = is_among name before || repeats_after (before ++ name ∷ []) names
@@ -80,7 +80,7 @@ unless_double place None = Err (Attribute place)
 unless_double place (Some attributes) =
     if repeats_after [] (names_of attributes) then Err (DoubleAttribute place) else Ok attributes
 
--- The attributes that a text lists, or its fault, which is told at a place.
+-- The attributes of a text, or its fault, which is reported at a position.
 unfoldable pub attributes_of : List ℕ → Place → Result (List NameValue) LineFault
 attributes_of text place = unless_double place (attributes_at text)
 

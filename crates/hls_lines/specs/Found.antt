@@ -1,4 +1,4 @@
--- Attributes at the front of a text.
+-- Leading attributes of a text.
 use Rattle.std.specs.Prelude.{ℕ, List}
 use Rattle.hls_lines.specs.{Attributes.NameValue, declared.attributes.Found.Found}
 

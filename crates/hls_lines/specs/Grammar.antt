@@ -22,14 +22,14 @@ pub record IsQuoted (value text : List ℕ) : Type 0 where
 abbrev pub IsWrittenValue : List ℕ → List ℕ → Type 0
 IsWrittenValue value text = IsPlain value text ⊎ IsQuoted value text
 
--- An attribute is its name, `=` and its value.
+-- An attribute: its name, `=` and its value.
 pub record IsWritten (attribute : NameValue) (text : List ℕ) : Type 0 where
   pub value : List ℕ
   pub is : text ≡ attribute.0 ++ 61 ∷ value
   pub named : is_name attribute.0 ≡ true
   pub valued : IsWrittenValue attribute.1 value
 
--- A comma may have spaces around it.
+-- A comma with optional spaces around it.
 pub record IsComma (text : List ℕ) : Type 0 where
   pub before : List ℕ
   pub behind : List ℕ
@@ -37,7 +37,7 @@ pub record IsComma (text : List ℕ) : Type 0 where
   pub spaces_before : list_all is_space before ≡ true
   pub spaces_behind : list_all is_space behind ≡ true
 
--- The front of a text, a comma, and the rest.
+-- The start of a text, a comma, and the rest.
 pub record IsJoined (Front Rest : List ℕ → Type 0) (text : List ℕ) : Type 0 where
   pub front : List ℕ
   pub comma : List ℕ
@@ -53,7 +53,7 @@ AreWritten [] text = ⊥
 AreWritten (attribute ∷ []) text = IsWritten attribute text
 AreWritten (attribute ∷ (next ∷ others)) text = IsJoined (IsWritten attribute) (AreWritten (next ∷ others)) text
 
--- A name stands at two places.
+-- A name is repeated.
 pub record HasDouble (names : List (List ℕ)) : Type 0 where
   pub first : ℕ
   pub second : ℕ
@@ -64,25 +64,25 @@ pub record HasDouble (names : List (List ℕ)) : Type 0 where
 
 -- ---- laws
 
--- attributes are read of exactly the texts that write them
+-- attributes are read from exactly the texts that write them
 abbrev pub ReadAreWritten : Type 0
 ReadAreWritten = (text : List ℕ) (attributes : List NameValue) → (attributes_at text ≡ Some attributes) ↔ AreWritten attributes text
 
--- a text writes no two lists
+-- no text writes two different lists
 abbrev pub WrittenOneWay : Type 0
 WrittenOneWay = (text : List ℕ) (one other : List NameValue) → AreWritten one text → AreWritten other text → one ≡ other
 
--- attributes are told where a text writes them and no name stands twice
+-- attributes are accepted where a text writes them and no name is repeated
 abbrev pub AttributesAreTold : Type 0
 AttributesAreTold = (text : List ℕ) (place : Place) (attributes : List NameValue)
     → (attributes_of text place ≡ Ok attributes) ↔ (AreWritten attributes text × (HasDouble (names_of attributes) → ⊥))
 
--- a text is refused where it writes no list
+-- a text is rejected where it writes no list
 abbrev pub OtherTextsAreRefused : Type 0
 OtherTextsAreRefused = (text : List ℕ) (place : Place)
     → (attributes_of text place ≡ Err (Attribute place)) ↔ ((attributes : List NameValue) → AreWritten attributes text → ⊥)
 
--- and where it writes one in which a name stands twice
+-- and where it writes one with a repeated name
 abbrev pub DoublesAreRefused : Type 0
 DoublesAreRefused = (text : List ℕ) (place : Place) → (attributes_of text place ≡ Err (DoubleAttribute place)) ↔
     ((attributes : List NameValue) × (AreWritten attributes text × HasDouble (names_of attributes)))

@@ -5,11 +5,11 @@ use Rattle.std.specs.Prelude.{ℕ, ◌+◌, ◌==◌, Bool, List, [], ◌∷◌,
 abbrev pub is_mark : ℕ → ℕ → Bool
 is_mark mark b = b == mark
 
--- what stands before and after the first such byte
+-- what is before and after the first such byte
 abbrev pub parts_at : (ℕ → Bool) → List ℕ → Option (List ℕ × List ℕ)
 parts_at test text = option_map (λ at. (take at text, drop (at + 1) text)) (position test text)
 
--- what follows the byte that a text begins with
+-- what follows a leading byte
 abbrev pub after_mark : ℕ → List ℕ → Option (List ℕ)
 after_mark mark [] = None
 after_mark mark (b ∷ bs) = if b == mark then Some bs else None

@@ -1,4 +1,4 @@
--- Names and values as they stand in memory.
+-- Names and values in memory.
 use Rattle.std.specs.{Prelude.{ℕ, List, map}, Borrow.Bor}
 use Rattle.hls_lines.specs.Attributes.{NameValue}
 

@@ -1,4 +1,4 @@
--- What the lines that are handed out say.
+-- The values of the lines that are returned.
 use Rattle.hls_lines.specs.{declared.lines.Line.Line, declared.lines.Line.TheVariants.{Tag, Uri}, Lines.{PlaylistLine, tag, uri}}
 
 abbrev pub said : Line → PlaylistLine

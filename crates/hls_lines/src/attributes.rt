@@ -31,7 +31,7 @@ impl<'a> Model for Attributes<'a> {
     ghost view = { λ attributes. pairs_of attributes.pairs.items };
 }
 
-/// An attribute at the front of a text, and what follows it.
+/// A leading attribute, and what follows it.
 #[derive(Clone, Copy)]
 struct Found<'a> {
     name: &'a str,
@@ -42,8 +42,8 @@ struct Found<'a> {
 /// Reads an attribute list: `NAME=value` joined by `,`, with spaces around a `,` (RFC 8216 4.2).
 ///
 /// A name has one or more ASCII letters, digits, `-`, `.` and `_`. A value is `"`, bytes without `"`, and `"`, or one or more
-/// bytes without `"`, `,`, space, tab, LF and CR. Every other text is [`LineFault::Attribute`], and a list in which a name
-/// stands twice [`LineFault::DoubleAttribute`], each told at the place.
+/// bytes without `"`, `,`, space, tab, LF and CR. Every other text is [`LineFault::Attribute`], and a list with a repeated
+/// name [`LineFault::DoubleAttribute`], each reported at the position.
 #[tactic(auto, unfolding(crate::specs::Attributes::attributes_of))]
 pub fn read_attributes<'a>(
     alloc: Global,
@@ -83,7 +83,7 @@ fn find_value<'a>(pairs: &[(&'a str, &'a str)], name: &str) -> Option<&'a str>
     None
 }
 
-/// The attributes of a whole text, if it lists attributes.
+/// The attributes of a whole text, if it is an attribute list.
 fn read_pairs<'a>(alloc: Global, text: &'a str) -> Result<Option<Vec<(&'a str, &'a str)>>, NoMemory>
     ensures { IfOk result (λ found. option_map (λ pairs. pairs_of pairs.items) found ≡ attributes_at text.now) }
 {
@@ -104,7 +104,7 @@ fn read_pairs<'a>(alloc: Global, text: &'a str) -> Result<Option<Vec<(&'a str, &
     }
 }
 
-/// Whether some name stands among those before it.
+/// Whether a name is repeated.
 fn repeats_a_name(alloc: Global, pairs: &[(&str, &str)]) -> Result<bool, NoMemory>
     ensures { IfOk result (λ repeated. repeated ≡ repeats_after [] (names_of (pairs_of pairs.now))) }
 {
@@ -117,7 +117,7 @@ fn repeats_a_name(alloc: Global, pairs: &[(&str, &str)]) -> Result<bool, NoMemor
     Ok(false)
 }
 
-/// An attribute at the front of a text.
+/// The leading attribute of a text.
 #[tactic(auto, unfolding(crate::specs::Attributes::attribute_at))]
 fn attribute_at(text: &str) -> Option<Found<'_>>
     ensures { option_map found_of result ≡ attribute_at text.now }
@@ -148,7 +148,7 @@ fn is_name_byte(byte: u8) -> bool
     byte.is_ascii_alphanumeric() || matches!(byte, b'-' | b'.' | b'_')
 }
 
-/// A value at the front of a text without its quotes, and what follows it.
+/// The leading value of a text without its quotes, and what follows it.
 fn value_at(text: &str) -> Option<(&str, &str)>
     ensures { option_map pair_of result ≡ value_at text.now }
 {
@@ -158,7 +158,7 @@ fn value_at(text: &str) -> Option<(&str, &str)>
     }
 }
 
-/// A value without quotes at the front of a text, and what follows it.
+/// The leading unquoted value of a text, and what follows it.
 fn plain_value(text: &str) -> Option<(&str, &str)>
     ensures { option_map pair_of result ≡ plain_value text.now }
 {
@@ -181,7 +181,7 @@ fn ends_value(byte: u8) -> bool
     matches!(byte, b'"' | b',' | b' ' | b'\t' | b'\n' | b'\r')
 }
 
-/// What follows a comma with spaces around it.
+/// Skips a comma with spaces around it.
 #[tactic(auto, unfolding(crate::specs::Attributes::after_comma))]
 fn after_comma(text: &str) -> Option<&str>
     ensures { option_map (λ rest. rest.now) result ≡ after_comma text.now }

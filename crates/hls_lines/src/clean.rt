@@ -1,4 +1,4 @@
-// Bytes that are a text without control characters.
+// Checks for UTF-8, and for control characters.
 ghost use Rattle.std.specs.Prelude.{◌≡◌, ◌≤◌, length, Some};
 ghost use Rattle.bridge_io.specs.Answer.{Gives};
 ghost use Rattle.bridge_io.specs.Places.{place_of};
@@ -21,7 +21,7 @@ fn begins_with_high_control(bytes: &[u8]) -> bool
 /// The first byte of each character U+0080 to U+00BF.
 const LEAD: u8 = 0xc2;
 
-/// Where a character U+0080 to U+009F begins for the first time.
+/// The index of the first character U+0080 to U+009F.
 fn first_high_control(bytes: &[u8]) -> Option<usize>
     ensures { result ≡ high_control_from 0 bytes.now }
 {
@@ -36,7 +36,7 @@ fn first_high_control(bytes: &[u8]) -> Option<usize>
     None
 }
 
-/// Where a control character begins for the first time that no playlist may have.
+/// The index of the first control character that a playlist may not have.
 fn first_control(bytes: &[u8]) -> Option<usize>
     ensures { result ≡ first_control bytes.now }
 {
@@ -60,7 +60,7 @@ fn place_at(bytes: &[u8], at: usize) -> Place
     }
 }
 
-/// The bytes as a text without control characters that no playlist may have.
+/// The bytes as a text, without control characters that a playlist may not have.
 #[tactic(auto, unfolding(crate::specs::Lines::clean))]
 pub(crate) fn clean(bytes: &[u8]) -> Result<&str, LineFault>
     ensures { Gives (λ text. text.now) Some result (clean bytes.now) }

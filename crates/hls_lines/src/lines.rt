@@ -12,14 +12,14 @@ use crate::marks::{after, cut_at};
 use bridge_io::Place;
 use std::marker::Model;
 
-/// A line of a playlist that is neither blank nor a comment (RFC 8216 4.1), without the spaces, tabs and CRs at its end.
+/// A line of a playlist that is neither blank nor a comment (RFC 8216 4.1), without trailing spaces, tabs and CRs.
 #[derive(Clone, Copy, PartialEq, Eq)]
 pub enum Line<'a> {
     /// A line that begins with `#EXT`.
     Tag {
-        /// What stands between the `#` and the first `:`, or the end.
+        /// What is between the `#` and the first `:`, or the end.
         name: &'a str,
-        /// What stands behind the first `:`; empty where there is none.
+        /// What follows the first `:`; empty where there is none.
         rest: &'a str,
         /// The line's first byte.
         place: Place,
@@ -35,8 +35,8 @@ pub enum Line<'a> {
 
 /// The lines of a playlist that are left: in a contract the list of them.
 ///
-/// Lines end by LF, CRLF or the end of the file. Blank lines and comments, which begin with `#` and not with `#EXT`, are
-/// passed over. The first line is the tag `EXTM3U`.
+/// Lines end with LF, CRLF or the end of the file. Blank lines and comments, which begin with `#` but not with `#EXT`,
+/// are ignored. The first line is the tag `EXTM3U`.
 #[derive(Drop)]
 pub struct Lines<'a> {
     rest: &'a str,
@@ -64,7 +64,7 @@ impl<'a> Lines<'a> {
     /// The lines of a playlist (RFC 8216 4.1 and 4.3.1.1).
     ///
     /// The faults [`LineFault::NotUtf8`], [`LineFault::BadChar`] and [`LineFault::Header`] are tried in this order over
-    /// the whole file; there are no others. It takes no memory.
+    /// the whole file; there are no others. It allocates nothing.
     #[tactic(auto, unfolding(crate::specs::Lines::lines_of))]
     pub fn new(bytes: &'a [u8]) -> Result<Lines<'a>, LineFault>
         ensures { result ≡ lines_of bytes.now }
@@ -77,7 +77,7 @@ impl<'a> Lines<'a> {
         Ok(Lines { rest, place })
     }
 
-    /// The next line; none where no line is left. It takes no memory.
+    /// The next line; `None` where no line is left. It allocates nothing.
     pub fn next(&mut self) -> Option<Line<'a>>
         ensures line { self.old ≡ with_line (option_map said result) self.new }
         ensures end { IfNone result (self.new ≡ []) }
@@ -96,7 +96,7 @@ impl<'a> Lines<'a> {
 }
 
 impl<'a> Lines<'a> {
-    /// The same lines once more. It takes no memory.
+    /// The same lines again. It allocates nothing.
     pub fn copy(&self) -> Lines<'a>
         ensures lines { result ≡ self.now }
         ensures few { length self.now ≤ 2 ^ 63 }
@@ -107,7 +107,7 @@ impl<'a> Lines<'a> {
         }
     }
 
-    /// How many lines with a URI are left. It takes no memory.
+    /// How many lines with a URI are left. It allocates nothing.
     pub fn count_uris(&self) -> usize
         ensures count { result ≡ count_by is_uri self.now }
         ensures few { length self.now ≤ 2 ^ 63 }
@@ -127,7 +127,7 @@ impl<'a> Lines<'a> {
     }
 }
 
-/// The first line of a text, what follows it, and where that stands.
+/// The first line of a text, what follows it, and the position of that.
 #[derive(Clone, Copy)]
 struct FirstLine<'a> {
     line: &'a str,
@@ -156,7 +156,7 @@ fn first_line(text: &str, place: Place) -> FirstLine<'_>
     }
 }
 
-/// The place of the line that follows.
+/// The position of the next line.
 fn behind(line: &str, place: Place) -> Place
     requires at { place.at + length line.now + 1 < 2 ^ 64 }
     requires line { place.line + 1 < 2 ^ 64 }
@@ -168,7 +168,7 @@ fn behind(line: &str, place: Place) -> Place
     }
 }
 
-/// What a line says, if anything.
+/// What a line means, if it isn't ignored.
 fn read_line(line: &str, place: Place) -> Option<Line<'_>>
     ensures { option_map said result ≡ line_of (trimmed line.now) place }
 {
@@ -182,7 +182,7 @@ fn read_line(line: &str, place: Place) -> Option<Line<'_>>
     }
 }
 
-/// Whether a line says a URI.
+/// Whether a line is a URI.
 #[inline(always)]
 fn is_uri_line(line: &str) -> bool
     ensures { result ≡ is_uri_line (trimmed line.now) }
@@ -191,7 +191,7 @@ fn is_uri_line(line: &str) -> bool
     !text.is_empty() && after(text, '#').is_none()
 }
 
-/// What a `#` begins: a tag or a comment.
+/// A line with a `#`: a tag or a comment.
 fn marked_line(text: &str, place: Place) -> Option<Line<'_>>
     ensures { option_map said result ≡ marked_line text.now place }
 {
@@ -202,7 +202,7 @@ fn marked_line(text: &str, place: Place) -> Option<Line<'_>>
     Some(Line::Tag { name, rest, place })
 }
 
-/// A line without the spaces, tabs and CRs at its end.
+/// A line without trailing spaces, tabs and CRs.
 fn trimmed(line: &str) -> &str
     ensures { result.now ≡ trimmed line.now }
 {

@@ -5,7 +5,7 @@ ghost use Rattle.hls_lines.specs.Pairs.{pair_of};
 
 use memchr::memchr;
 
-/// Where a byte stands for the first time.
+/// The index of the first occurrence of a byte.
 #[inline(always)]
 pub(crate) fn find_mark(bytes: &[u8], mark: u8) -> Option<usize>
     ensures { result ≡ position (is_mark mark) bytes.now }
@@ -13,7 +13,7 @@ pub(crate) fn find_mark(bytes: &[u8], mark: u8) -> Option<usize>
     memchr(mark, bytes)
 }
 
-/// What stands before and behind an ASCII character where that stands in a text for the first time. It takes no memory.
+/// What is before and after the first occurrence of an ASCII character in a text. It allocates nothing.
 #[inline(always)]
 pub fn cut_at(text: &str, mark: u8) -> Option<(&str, &str)>
     requires { mark < 128 }
@@ -23,7 +23,7 @@ pub fn cut_at(text: &str, mark: u8) -> Option<(&str, &str)>
     Some((&text[..at], &text[at + 1..]))
 }
 
-/// What follows the ASCII character that a text begins with.
+/// What follows a leading ASCII character.
 pub(crate) fn after(text: &str, mark: char) -> Option<&str>
     requires { mark < 128 }
     ensures { option_map (λ rest. rest.now) result ≡ after_mark mark text.now }

@@ -1,4 +1,4 @@
--- Lists of codes (RFC 6381) by the class of each code.
+-- Lists of codecs (RFC 6381) by the class of each codec.
 use Rattle.bridge_io.specs.declared.media.Kind.TheVariants as kind
 use Rattle.std.specs.{Prelude.{ℕ, Bool, true, false, List, [], ◌∷◌, filter, Option, Some, None}, List.{list_any, join_with_byte}}
 use Rattle.bridge_io.specs.declared.media.Kind.{Kind}
@@ -6,7 +6,7 @@ use Rattle.url_parts.specs.{declared.code.CodeClass.CodeClass, declared.code.Cod
 use Rattle.url_parts.specs.Codes.{class_of}
 use Rattle.mpd_values.specs.Codecs.{codes_of}
 
--- a track of a kind has the codes of this class; a video track those of unknown class too
+-- a track of a kind has the codecs of this class; a video track also those of unknown class
 abbrev pub belongs : Kind → CodeClass → Bool
 belongs kind.Video Video = true
 belongs kind.Video Unknown = true
@@ -19,7 +19,7 @@ belongs kind.Text class = false
 abbrev pub is_of : Kind → List ℕ → Bool
 is_of kind code = belongs kind (class_of code)
 
--- a list of codes holds one that a track of this kind has
+-- a list of codecs has one for a track of this kind
 unfoldable pub has_code : Kind → List ℕ → Bool
 has_code kind text = list_any (is_of kind) (codes_of text)
 
@@ -31,6 +31,6 @@ abbrev pub joined : List (List ℕ) → Option (List ℕ)
 joined [] = None
 joined (code ∷ others) = Some (join_with_byte 44 (code ∷ others))
 
--- the codes of a list that a track of this kind has
+-- the codecs of a list for a track of this kind
 unfoldable pub selected : Kind → List ℕ → Option (List ℕ)
 selected kind text = joined (filter (is_of kind) (codes_of text))

@@ -11,7 +11,7 @@ pub data KnownLine : Type 0 where
   -- EXT-X-STREAM-INF, by its attributes
   stream : (rest : List ℕ) (place : Place) → KnownLine
   address : (text : List ℕ) (place : Place) → KnownLine
-  -- a tag that is refused by its name alone
+  -- a tag that is rejected by its name alone
   refused : MasterFault → KnownLine
 
 -- tags of media playlists (RFC 8216 4.3.2 and 4.3.3)
@@ -30,7 +30,7 @@ known_tag name rest place =
     else (if bytes_eq name (codes "EXT-X-STREAM-INF") then Some (stream rest place)
     else option_map (λ fault. refused fault) (refused_tag name place))
 
--- the URI that a known line is
+-- the URI of a known line
 abbrev pub uri_in : Option KnownLine → Option (List ℕ × Place)
 uri_in (Some (address text place)) = Some (text, place)
 uri_in known = None
@@ -43,7 +43,7 @@ abbrev pub with_known : Option KnownLine → List KnownLine → List KnownLine
 with_known None lines = lines
 with_known (Some line) lines = line ∷ lines
 
--- every other line is passed over
+-- every other line is ignored
 abbrev pub known_lines : List PlaylistLine → List KnownLine
 known_lines [] = []
 known_lines (line ∷ lines) = with_known (known_line line) (known_lines lines)
@@ -53,7 +53,7 @@ pub data MasterEntry : Type 0 where
   variant : (rest : List ℕ) (place : Place) (uri : List ℕ) (uri_place : Place) → MasterEntry
   stray : MasterFault → MasterEntry
 
--- what the known lines say: the next known line behind EXT-X-STREAM-INF is to be a URI, which stands nowhere else
+-- the entries of known lines: the next known line after EXT-X-STREAM-INF has to be a URI, which isn't allowed anywhere else
 abbrev pub entries_of : List KnownLine → List MasterEntry
 entries_of [] = []
 entries_of (media rest place ∷ lines) = rendition rest place ∷ entries_of lines
@@ -62,7 +62,7 @@ entries_of (stream rest place ∷ lines) = stray (Misplaced place) ∷ entries_o
 entries_of (address text place ∷ lines) = stray (Misplaced place) ∷ entries_of lines
 entries_of (refused fault ∷ lines) = stray fault ∷ entries_of lines
 
--- an entry, if any, is the first of those before; others are left, but behind a stray line nothing is read
+-- an entry, if any, is the first of those before; the others are left, but after a stray line nothing is read
 abbrev pub IsNext : List MasterEntry → Option MasterEntry → List MasterEntry → Type 0
 IsNext before None after = before ≡ []
 IsNext before (Some (stray fault)) after = (others : List MasterEntry) × (before ≡ stray fault ∷ others)

@@ -9,12 +9,12 @@ abbrev pub answer : {X F : Type 0} → Option F → X → Result X F
 answer None value = Ok value
 answer (Some fault) value = Err fault
 
--- what is answered, its value seen by a function
+-- a result with its value mapped
 abbrev pub mapped : {X Y F : Type 0} → (X → Y) → Result X F → Result Y F
 mapped see (Ok value) = Ok (see value)
 mapped see (Err fault) = Err fault
 
--- want of memory tells nothing of the file
+-- out of memory says nothing about the file
 abbrev pub refusal : MasterFault → Option MasterFault
 refusal Memory = None
 refusal fault = Some fault

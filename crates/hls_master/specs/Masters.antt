@@ -13,21 +13,21 @@ use Rattle.hls_master.specs.{Renditions.same_kind, Tracks.{TrackValue, is_audio_
 abbrev pub groups_in : Kind → List RenditionValue → List (List ℕ)
 groups_in kind renditions = map (λ rendition. rendition.group) (filter (λ rendition. same_kind kind rendition.kind) renditions)
 
--- a group that stands among groups, or none
+-- a group that is a member of some groups, or `None`
 abbrev pub is_known : List (List ℕ) → Option (List ℕ) → Bool
 is_known groups None = true
 is_known groups (Some group) = is_among group groups
 
--- its AUDIO or SUBTITLES is no group of its type
+-- its AUDIO or SUBTITLES isn't a group of its type
 abbrev pub names_unknown_group : (audio text : List (List ℕ)) → VariantValue → Bool
 names_unknown_group audio text variant = not (is_known audio variant.audio && is_known text variant.subtitles)
 
--- no rendition mentions its address; it isn't audio alone; it names no audio, and has an audio code
+-- no rendition mentions its URL; it isn't audio only; it names no audio group, and has an audio codec
 abbrev pub is_muxed : (addresses : List (List ℕ)) → VariantValue → Bool
 is_muxed addresses variant = not (is_among variant.address addresses)
     && (not (is_audio_variant variant) && (is_none variant.audio && has_code_in Audio variant.shown.codecs))
 
--- where the first variant stands that passes a test
+-- the position of the first variant that passes a test
 abbrev pub first_place : (VariantValue → Bool) → List VariantValue → Option Place
 first_place test [] = None
 first_place test (variant ∷ variants) = if test variant then Some variant.place else first_place test variants
@@ -47,7 +47,7 @@ muxed mentions = option_map (λ place. Muxed place)
 abbrev pub above_limit : Place → MentionsValue → Option MasterFault
 above_limit end mentions = if nat_lt 200 (length (firsts_of mentions)) then Some (Limit end) else None
 
--- the faults that are tried after all lines, the file's end being at a place
+-- the faults that are tried after all lines, given the position of the file's end
 abbrev pub end_faults : Place → MentionsValue → List (Option MasterFault)
 end_faults end mentions = unknown_group mentions ∷ muxed mentions ∷ no_variant end mentions.variants ∷ above_limit end mentions ∷ []
 
@@ -59,7 +59,7 @@ whole_of end mentions = answer (first_some (end_faults end mentions)) (tracks_of
 abbrev pub mentions_in : (master : List ℕ) → List PlaylistLine → MentionsValue
 mentions_in master lines = mentions_of master (entries_of (known_lines lines))
 
--- all faults of lines: those of the lines in their order, then those of the whole
+-- all faults: those of the lines in order, then those of the whole
 abbrev pub faults_of : (master : List ℕ) → (end : Place) → List PlaylistLine → List (Option MasterFault)
 faults_of master end lines = entry_faults master [] (entries_of (known_lines lines)) ++ end_faults end (mentions_in master lines)
 
@@ -67,11 +67,11 @@ abbrev pub values_by : (master : List ℕ) → Result (List PlaylistLine) LineFa
 values_by master (Ok lines) = Some (tracks_of (mentions_in master lines))
 values_by master (Err fault) = None
 
--- the tracks that a master tells, without any bound on numbers, lengths and counts
+-- the tracks of a master playlist, without bounds on numbers, lengths and counts
 unfoldable pub master_values : (bytes master : List ℕ) → Option (List TrackValue)
 master_values bytes master = values_by master (lines_of bytes)
 
--- the tracks that lines tell, or the first of their faults
+-- the tracks of lines, or the first of their faults
 unfoldable pub master_in : (master : List ℕ) → (end : Place) → List PlaylistLine → Result (List TrackValue) MasterFault
 master_in master end lines = answer (first_some (faults_of master end lines)) (tracks_of (mentions_in master lines))
 
@@ -79,6 +79,6 @@ abbrev pub master_by : (master : List ℕ) → (end : Place) → Result (List Pl
 master_by master end (Ok lines) = master_in master end lines
 master_by master end (Err fault) = Err (of_line fault)
 
--- The tracks of a master, whose own address is the second argument, or its first fault.
+-- The tracks of a master playlist, whose own URL is the second argument, or its first fault.
 unfoldable pub master_of : (bytes master : List ℕ) → Result (List TrackValue) MasterFault
 master_of bytes master = master_by master (place_of bytes (length bytes)) (lines_of bytes)

@@ -8,7 +8,7 @@ number_of Video = 0
 number_of Audio = 1
 number_of Text = 2
 
--- a key is the kind, group and name of a rendition
+-- a key has the kind, group and name of a rendition
 abbrev pub is_key : RenditionValue → ℕ × Bor (List ℕ) × Bor (List ℕ) → Bool
 is_key one key = number_of one.kind == key.0 && bytes_eq one.group key.1.now && bytes_eq one.name key.2.now
 

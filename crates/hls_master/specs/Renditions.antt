@@ -17,7 +17,7 @@ pub record RenditionValue : Type 0 where
   pub language : Option (List ℕ)
   pub address : List ℕ
 
--- the value of an attribute that is there
+-- the value of a present attribute
 abbrev pub text_at : (name : List ℕ) → List NameValue → List ℕ
 text_at name attributes = unwrap_or (value_of name attributes) []
 
@@ -25,7 +25,7 @@ abbrev pub missing : Place → Option (List ℕ) → Option MasterFault
 missing place None = Some (Missing place)
 missing place (Some value) = None
 
--- an attribute's value, where it is there, is to pass a test
+-- the fault of an attribute whose value, where it is present, doesn't pass a test
 abbrev pub malformed : (List ℕ → Bool) → Place → Option (List ℕ) → Option MasterFault
 malformed test place None = None
 malformed test place (Some value) = if test value then None else Some (Value place)
@@ -37,7 +37,7 @@ kind_of_type type = if bytes_eq type (codes "AUDIO") then Some Audio else (if by
 abbrev pub kind_in : List NameValue → Option Kind
 kind_in attributes = option_and_then kind_of_type (value_of (codes "TYPE") attributes)
 
--- AUDIO and SUBTITLES are read, CLOSED-CAPTIONS is passed over
+-- AUDIO and SUBTITLES are read, CLOSED-CAPTIONS is ignored
 abbrev pub type_fault : Place → Option (List ℕ) → Option MasterFault
 type_fault place None = Some (Missing place)
 type_fault place (Some type) = if bytes_eq type (codes "VIDEO") then Some (Unsupported place)
@@ -71,7 +71,7 @@ rendition_fault master place (Ok attributes) =
     first_some (type_fault place (value_of (codes "TYPE") attributes) ∷ faults_by (rendition_faults master place attributes)
     (kind_in attributes))
 
--- the rendition of a kind that attributes tell
+-- the rendition of a kind by its attributes
 abbrev pub rendition_with : (master : List ℕ) → List NameValue → Kind → RenditionValue
 rendition_with master attributes kind = record {
   kind = kind;
@@ -81,7 +81,7 @@ rendition_with master attributes kind = record {
   address = address_value master (text_at (codes "URI") attributes);
 }
 
--- the rendition that an EXT-X-MEDIA line tells, if it tells one
+-- the rendition of an EXT-X-MEDIA line, if it has one
 abbrev pub rendition_value : (master : List ℕ) → Result (List NameValue) LineFault → Option RenditionValue
 rendition_value master (Err fault) = None
 rendition_value master (Ok attributes) = option_map (rendition_with master attributes) (kind_in attributes)
@@ -100,7 +100,7 @@ same_kind kind other = false
 abbrev pub has_name_of : RenditionValue → RenditionValue → Bool
 has_name_of one other = same_kind one.kind other.kind && bytes_eq one.group other.group && bytes_eq one.name other.name
 
--- a rendition whose kind, group and name stand among those before it
+-- the fault of a rendition whose kind, group and name an earlier one has
 abbrev pub same_name : List RenditionValue → Place → Option RenditionValue → Option MasterFault
 same_name before place None = None
 same_name before place (Some one) = if list_any (has_name_of one) before then Some (SameName place) else None

@@ -1,4 +1,4 @@
--- What the values in memory say.
+-- The meanings of values in memory.
 use Rattle.std.specs.{Prelude.{ℕ, List}, Borrow.Bor}
 use Rattle.bridge_io.specs.declared.place.Place.{Place}
 use Rattle.hls_master.specs.Entries.{KnownLine, media, stream, address, refused, MasterEntry, rendition, variant, stray}

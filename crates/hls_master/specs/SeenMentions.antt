@@ -1,4 +1,4 @@
--- What mentions in memory say.
+-- The meanings of mentions in memory.
 use Rattle.std.specs.Prelude.{map}
 use Rattle.hls_master.specs.{Mentions.MentionsValue, SeenTags.{rendition_seen, variant_seen}, declared.mentions.Mentions.Mentions}
 

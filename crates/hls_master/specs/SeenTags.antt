@@ -1,4 +1,4 @@
--- What renditions and variants in memory say.
+-- The meanings of renditions and variants in memory.
 use Rattle.std.specs.{Prelude.{ℕ, List, Option, option_map}, Borrow.Bor}
 use Rattle.bridge_io.specs.declared.media.Ratio.{Ratio}
 use Rattle.hls_master.specs.{Renditions.RenditionValue, Variants.{ShownValue, VariantValue}, declared.rendition.Rendition.Rendition}

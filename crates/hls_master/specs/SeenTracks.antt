@@ -1,4 +1,4 @@
--- What mentions and tracks in memory say.
+-- The meanings of mentions and tracks in memory.
 use Rattle.hls_master.specs.{SeenTags.{rate_seen, rendition_seen, variant_seen}, Tracks.{Mentioned, by_rendition, by_variant, TrackValue}}
 use Rattle.hls_master.specs.{declared.mention.Mention.Mention, declared.mention.Mention.TheVariants.{Rendition, Variant}}
 use Rattle.hls_master.specs.declared.track.MasterTrack.{MasterTrack}

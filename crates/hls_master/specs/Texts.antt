@@ -1,4 +1,4 @@
--- Texts of which only matters which are there.
+-- Sets of texts.
 use Rattle.std.specs.Prelude.{◌≡◌, ℕ, List}
 use Rattle.bridge_io.specs.Texts.{is_among}
 

@@ -1,4 +1,4 @@
--- The tracks of a master: the distinct addresses that it mentions.
+-- The tracks of a master playlist: the distinct URLs that it mentions.
 use Rattle.std.specs.Prelude.{ℕ, ◌+◌, ◌&&◌, not, Bool, false, List, [], ◌∷◌, ◌++◌, map, filter, length, nat_lt, bytes_eq, if◌then◌else◌}
 use Rattle.std.specs.{Prelude.{Option, Some, None, option_and_then}, List.list_any, Option.{is_some, option_eq}}
 use Rattle.bridge_io.specs.{Texts.is_among, declared.media.Kind.Kind, declared.media.Kind.TheVariants.{Video, Audio, Text}}
@@ -13,12 +13,12 @@ pub record TrackValue : Type 0 where
   pub address : List ℕ
   pub language : Option (List ℕ)
   pub codecs : Option (List ℕ)
-  -- bits a second
+  -- bits per second
   pub bandwidth : ℕ
   pub size : Option Size
   pub frame_rate : Option (ℕ × ℕ)
 
--- a line that mentions an address
+-- a line that mentions a URL
 pub data Mentioned : Type 0 where
   by_rendition : RenditionValue → Mentioned
   by_variant : VariantValue → Mentioned
@@ -31,7 +31,7 @@ address_of (by_variant variant) = variant.address
 abbrev pub mentioned : MentionsValue → List Mentioned
 mentioned mentions = map by_rendition mentions.renditions ++ map by_variant mentions.variants
 
--- the first mention of each address that isn't among those before
+-- the first mention of each URL that isn't among those before
 abbrev pub firsts_behind : List (List ℕ) → List Mentioned → List Mentioned
 firsts_behind before [] = []
 firsts_behind before (mention ∷ mentions) = if is_among (address_of mention) before then firsts_behind before mentions
@@ -40,11 +40,11 @@ firsts_behind before (mention ∷ mentions) = if is_among (address_of mention) b
 unfoldable pub firsts_of : MentionsValue → List Mentioned
 firsts_of mentions = firsts_behind [] (mentioned mentions)
 
--- the members of a list, where they are at most 200
+-- a list, where it has at most 200 members
 abbrev pub few : List Mentioned → Option (List Mentioned)
 few mentions = if nat_lt 200 (length mentions) then None else Some mentions
 
--- CODECS holds a code of class audio, and none of class video or unknown
+-- CODECS has a codec of class audio, and none of class video or unknown
 abbrev pub is_audio_variant : VariantValue → Bool
 is_audio_variant variant = has_code_in Audio variant.shown.codecs && not (has_code_in Video variant.shown.codecs)
 
@@ -55,7 +55,7 @@ abbrev pub kind_of : Mentioned → Kind
 kind_of (by_rendition rendition) = rendition.kind
 kind_of (by_variant variant) = variant_kind variant
 
--- both are of one set: renditions of one kind, name and language, or variants of one kind
+-- both are of the same set: renditions of the same kind, name and language, or variants of the same kind
 abbrev pub same_set : Mentioned → Mentioned → Bool
 same_set (by_rendition one) (by_rendition other) = same_rendition_set one other
 same_set (by_variant one) (by_variant other) = same_kind (variant_kind one) (variant_kind other)
@@ -87,7 +87,7 @@ group_codecs kind group (variant ∷ variants) =
     if option_eq bytes_eq (group_of kind variant) (Some group) && is_some variant.shown.codecs then variant.shown.codecs
     else group_codecs kind group variants
 
--- the bits a second of a rendition, of which HLS states none
+-- the bits per second of a rendition, for which HLS gives none
 abbrev pub rendition_bandwidth : Kind → ℕ
 rendition_bandwidth Text = 1000
 rendition_bandwidth kind = 128000
@@ -116,7 +116,7 @@ variant_track set variant = record {
   frame_rate = variant.shown.frame_rate;
 }
 
--- the track of an address by its first mention
+-- the track of a URL by its first mention
 abbrev pub track_of : List VariantValue → ℕ → Mentioned → TrackValue
 track_of variants set (by_rendition rendition) = rendition_track variants set rendition
 track_of variants set (by_variant variant) = variant_track set variant
@@ -127,7 +127,8 @@ tracks_of_sets variants firsts number [] = []
 tracks_of_sets variants firsts number (set ∷ sets) =
     map (track_of variants number) (filter (same_set set) firsts) ++ tracks_of_sets variants firsts (number + 1) sets
 
--- the tracks of first mentions: video, audio and text; of these the sets by their first sight; of a set the tracks by their first mention
+-- the tracks of first mentions: video, audio and text; of these the sets by their first mention; of a set the tracks by their first
+-- mention
 unfoldable pub tracks_among : List VariantValue → List Mentioned → List TrackValue
 tracks_among variants firsts = tracks_of_sets variants firsts 0 (sets_behind [] (by_kind firsts))
 

@@ -8,7 +8,7 @@ use Rattle.mpd_values.specs.Numbers.{numeral_of, kept_if, is_between}
 abbrev pub number_below : (bound : ℕ) → List ℕ → Option ℕ
 number_below bound text = kept_if (is_between 0 bound) (numeral_of text)
 
--- bits a second: 1 to 2^32 - 1
+-- bits per second: 1 to 2^32 - 1
 abbrev pub is_bandwidth : List ℕ → Bool
 is_bandwidth text = is_some (kept_if (is_between 1 (2 ^ 32)) (numeral_of text))
 
@@ -31,23 +31,23 @@ size_within text = size_by (number_below (2 ^ 32) (before_first is_x text)) (num
 abbrev pub is_point : ℕ → Bool
 is_point b = b == 46
 
--- the digit at a place, 0 behind the last one
+-- the digit at an index, 0 after the last one
 abbrev pub digit_at : List ℕ → ℕ → ℕ
 digit_at digits place = slice_index digits place - 48
 
--- the thousandths that digits behind a point tell; more digits are dropped
+-- the thousandths of the digits after a decimal point; further digits are dropped
 abbrev pub thousandths : List ℕ → ℕ
 thousandths digits = 100 * digit_at digits 0 + 10 * digit_at digits 1 + digit_at digits 2
 
--- a fraction of so many thousandths
+-- a fraction of a number of thousandths
 abbrev pub rate_by : List ℕ → Option ℕ → Option (ℕ × ℕ)
 rate_by digits None = None
 rate_by digits (Some whole) = if list_all is_ascii_digit digits then Some (1000 * whole + thousandths digits, 1000) else None
 
--- a number, and a point with digits or none behind it
+-- a number, and an optional decimal point followed by digits
 abbrev pub rate_of : List ℕ → Option (ℕ × ℕ)
 rate_of text = rate_by (after_first is_point text) (numeral_of (before_first is_point text))
 
--- the same, below 2^20 frames a second
+-- the same, below 2^20 frames per second
 abbrev pub rate_within : List ℕ → Option (ℕ × ℕ)
 rate_within text = rate_by (after_first is_point text) (number_below (2 ^ 20) (before_first is_point text))

@@ -1,4 +1,4 @@
--- Variants: EXT-X-STREAM-INF and the URI behind it (RFC 8216 4.3.4.2).
+-- Variants: EXT-X-STREAM-INF and the URI after it (RFC 8216 4.3.4.2).
 use Rattle.std.specs.Prelude.{ℕ, List, [], ◌∷◌, ◌++◌, codes, Option, Some, None, option_and_then, unwrap_or, Result, Ok, Err}
 use Rattle.std.specs.Option.{is_some}
 use Rattle.bridge_io.specs.{Firsts.first_some, declared.media.Size.Size, declared.place.Place.Place}
@@ -12,7 +12,7 @@ abbrev pub unsupported : Place → Option (List ℕ) → Option MasterFault
 unsupported place None = None
 unsupported place (Some value) = Some (Unsupported place)
 
--- the faults of what a variant shows of its media
+-- the faults of the properties of a variant's media
 abbrev pub shown_faults : Place → List NameValue → List (Option MasterFault)
 shown_faults place attributes =
     malformed are_read_codes place (value_of (codes "CODECS") attributes)
@@ -21,11 +21,11 @@ shown_faults place attributes =
     ∷ unsupported place (value_of (codes "VIDEO") attributes)
     ∷ []
 
--- what a variant shows of its media
+-- the properties of a variant's media
 pub record ShownValue : Type 0 where
   pub codecs : Option (List ℕ)
   pub size : Option Size
-  -- frames a second, as numerator and denominator
+  -- frames per second, as numerator and denominator
   pub frame_rate : Option (ℕ × ℕ)
 
 abbrev pub shown_value : List NameValue → ShownValue
@@ -36,9 +36,9 @@ shown_value attributes = record {
 }
 
 pub record VariantValue : Type 0 where
-  -- where its EXT-X-STREAM-INF stands
+  -- the position of its EXT-X-STREAM-INF
   pub place : Place
-  -- bits a second
+  -- bits per second
   pub bandwidth : ℕ
   pub shown : ShownValue
   -- the groups of its renditions
@@ -59,7 +59,7 @@ abbrev pub variant_fault : (master : List ℕ) → Place → (uri : List ℕ) �
 variant_fault master place uri uri_place (Err fault) = Some (of_line fault)
 variant_fault master place uri uri_place (Ok attributes) = first_some (variant_faults master place uri uri_place attributes)
 
--- the variant that attributes and a URI tell
+-- the variant of attributes and a URI
 abbrev pub variant_with : (master : List ℕ) → Place → (uri : List ℕ) → List NameValue → VariantValue
 variant_with master place uri attributes = record {
   place = place;

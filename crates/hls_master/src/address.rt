@@ -1,4 +1,4 @@
-// The addresses of a master's URIs.
+// The URLs of a master playlist's URIs.
 ghost use Rattle.bridge_io.specs.Answer.{Gives};
 ghost use Rattle.url_parts.specs.Addresses.{refusal as url_refusal};
 ghost use Rattle.hls_master.specs.Addresses.{address_of, address_fault, address_value};
@@ -9,7 +9,7 @@ use bridge_io::{Name, NameFault, Place};
 use std::alloc::Global;
 use url_parts::{Address, Base, UrlFault};
 
-/// The address of a URI: a name's stands right behind the master's folder. Its fault is told at the place.
+/// The URL of a URI: a name is appended to the master's folder. A fault is reported at the position.
 pub(crate) fn read_address(
     alloc: Global,
     base: &Base,

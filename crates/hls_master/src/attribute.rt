@@ -1,4 +1,4 @@
-// Attributes that a tag is to have, or whose values are to pass a test.
+// Attributes that are required, or whose values have to pass a test.
 ghost use Rattle.std.specs.Prelude.{◌≡◌};
 ghost use Rattle.hls_lines.specs.Attributes.{value_of};
 ghost use Rattle.hls_master.specs.Faults.{answer, mapped};

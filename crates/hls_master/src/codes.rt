@@ -1,4 +1,4 @@
-// Lists of codes.
+// Lists of codecs.
 ghost use Rattle.std.specs.Prelude.{◌≡◌, map, filter, IfOk};
 ghost use Rattle.mpd_values.specs.Codecs.{codes_of};
 ghost use Rattle.hls_master.specs.Codes.{belongs, is_of, has_code, selected};
@@ -8,7 +8,7 @@ use mpd_values::{Blank, trimmed};
 use std::alloc::Global;
 use url_parts::{CodeClass, code_class};
 
-/// Whether a track of a kind has codes of a class.
+/// Whether a track of a kind has codecs of a class.
 fn belongs(kind: Kind, class: CodeClass) -> bool
     ensures { result ≡ belongs kind class }
 {
@@ -25,7 +25,7 @@ fn is_of(kind: Kind, code: &str) -> bool
     belongs(kind, code_class(code))
 }
 
-/// Whether a list of codes holds one that a track of this kind has.
+/// Whether a list of codecs has one for a track of this kind.
 #[tactic(auto, unfolding(crate::specs::Codes::has_code))]
 pub(crate) fn has_code(kind: Kind, codes: &str) -> bool
     ensures { result ≡ has_code kind codes.now }
@@ -35,7 +35,7 @@ pub(crate) fn has_code(kind: Kind, codes: &str) -> bool
         .any(|code| is_of(kind, trimmed(code, Blank::Space)))
 }
 
-/// The codes of a list that a track of this kind has, joined by `,`.
+/// The codecs of a list for a track of this kind, joined by `,`.
 #[tactic(auto, unfolding(crate::specs::Codes::selected))]
 pub(crate) fn select_codes(alloc: Global, kind: Kind, codes: &str) -> Result<Option<Text>, NoMemory>
     ensures { IfOk result (λ text. text ≡ selected kind codes.now) }

@@ -8,7 +8,7 @@ use crate::MasterFault;
 use bridge_io::Place;
 use hls_lines::{Line, Lines};
 
-/// A line that is not passed over.
+/// A line that isn't ignored.
 #[derive(Clone, Copy)]
 enum Known<'a> {
     Media { rest: &'a str, place: Place },
@@ -17,28 +17,28 @@ enum Known<'a> {
     Refused(MasterFault),
 }
 
-/// What a master says at one place.
+/// An entry of a master playlist.
 #[derive(Clone, Copy)]
 pub enum Entry<'a> {
     /// EXT-X-MEDIA, by its attributes.
     Rendition {
         /// The text of its attributes.
         rest: &'a str,
-        /// The tag's place.
+        /// The tag's position.
         place: Place,
     },
-    /// EXT-X-STREAM-INF, by its attributes, and the URI line behind it.
+    /// EXT-X-STREAM-INF, by its attributes, and the URI line after it.
     Variant {
         /// The text of its attributes.
         rest: &'a str,
-        /// The tag's place.
+        /// The tag's position.
         place: Place,
         /// The URI line.
         uri: &'a str,
-        /// The URI line's place.
+        /// The URI line's position.
         uri_place: Place,
     },
-    /// A line that no master may have there.
+    /// A line that isn't allowed there.
     Stray(MasterFault),
 }
 
@@ -50,7 +50,7 @@ const MEDIA_TAGS: [&str; 4] = [
     "EXT-X-MAP",
 ];
 
-/// The next entry; none where no line is left. Behind a stray line nothing more is to be asked.
+/// The next entry; `None` where no line is left. Don't call it again after a stray line.
 pub fn next_entry<'a>(lines: &mut Lines<'a>) -> Option<Entry<'a>>
     ensures { IsNext (entries_of (known_lines lines.old)) (option_map entry_seen result) (entries_of (known_lines lines.new)) }
 {
@@ -79,7 +79,7 @@ fn join_uri<'a>(lines: &mut Lines<'a>, rest: &'a str, place: Place) -> Entry<'a>
     }
 }
 
-/// The URI that a known line is, with its place.
+/// The URI of a known line, with its position.
 fn uri_in(known: Option<Known<'_>>) -> Option<(&str, Place)>
     ensures { option_map uri_seen result ≡ uri_in (option_map line_seen known.entry) }
 {
@@ -124,7 +124,7 @@ fn known_tag<'a>(name: &str, rest: &'a str, place: Place) -> Option<Known<'a>>
     }
 }
 
-/// The fault of a tag that is refused by its name alone.
+/// The fault of a tag that is rejected by its name alone.
 fn refused_tag(name: &str, place: Place) -> Option<MasterFault>
     ensures { result ≡ refused_tag name.now place }
 {

@@ -1,4 +1,4 @@
-// Why a master is refused.
+// Why a master playlist is rejected.
 ghost use Rattle.std.specs.Prelude.{◌≡◌};
 ghost use Rattle.hls_master.specs.declared.fault.MasterFault.TheVariants.{Memory};
 ghost use Rattle.hls_master.specs.Addresses.{of_url};
@@ -10,14 +10,15 @@ use std::alloc::{AllocError, AllocFailed};
 use thiserror::Error;
 use url_parts::UrlFault;
 
-/// Why a text is no master playlist that is read. The faults of lines are tried in the order of the lines; then, after
+/// Why a text can't be read as a master playlist. The faults of lines are tried in the order of the lines; then, after
 /// all lines, `GroupUnknown`, `Muxed` of a variant, `NoTracks` and `Limit` in this order.
 #[derive(Clone, Copy, Debug, PartialEq, Eq, Error)]
 pub enum MasterFault {
-    /// The text has no lines (RFC 8216 4.1), or a tag no attribute list (4.2), at the place that the fault tells.
+    /// The text has no valid lines (RFC 8216 4.1), or a tag no valid attribute list (4.2), at the position in the
+    /// fault.
     #[error("{0}")]
     Line(LineFault),
-    /// A required attribute is absent, or the URI of a rendition of subtitles (RFC 8216 4.3.4.1 and 4.3.4.2): the tag.
+    /// A required attribute is missing, or the URI of a subtitle rendition (RFC 8216 4.3.4.1 and 4.3.4.2): the tag.
     #[error("a required attribute is missing")]
     Missing(Place),
     /// An attribute's value is malformed or out of its bounds: the tag.
@@ -27,23 +28,22 @@ pub enum MasterFault {
     /// (RFC 8216 4.3.4.2): the line.
     #[error("a misplaced line")]
     Misplaced(Place),
-    /// A URI gives no address: the line of the EXT-X-MEDIA, or the URI line.
+    /// A URI gives no valid URL: the line of the EXT-X-MEDIA, or the URI line.
     #[error("{0}")]
     Url(UrlFault, Place),
-    /// Audio that lies in the files of a variant: EXT-X-MEDIA of audio without URI, or a variant that holds audio beside
-    /// other media. The tag.
+    /// Muxed audio: EXT-X-MEDIA of audio without URI, or a variant with audio and other media in its files. The tag.
     #[error("audio and other media in one file")]
     Muxed(Place),
-    /// A variant names a group of renditions that isn't there (RFC 8216 4.3.4.2): its EXT-X-STREAM-INF.
+    /// A variant names a rendition group that doesn't exist (RFC 8216 4.3.4.2): its EXT-X-STREAM-INF.
     #[error("an unknown group of renditions")]
     GroupUnknown(Place),
-    /// Two renditions of one type and group have one name (RFC 8216 4.3.4.1.1): the second.
+    /// Two renditions of the same type and group have the same name (RFC 8216 4.3.4.1.1): the second.
     #[error("a name that stands twice in a group")]
     SameName(Place),
     /// Encrypted media (RFC 8216 4.3.4.4): the tag.
     #[error("encrypted media")]
     Encryption(Place),
-    /// Renditions of video, and variables: the tag.
+    /// Video renditions, and variables: the tag.
     #[error("an unsupported feature")]
     Unsupported(Place),
     /// There is no variant: the file's end.
@@ -52,13 +52,13 @@ pub enum MasterFault {
     /// There are more than 200 tracks: the file's end.
     #[error("too many tracks")]
     Limit(Place),
-    /// Memory is wanting, which says nothing of the file.
+    /// Out of memory, which says nothing about the file.
     #[error("out of memory")]
     Memory,
 }
 
 impl MasterFault {
-    /// The fault of a URI that is told at a place.
+    /// The fault of a URI, reported at a position.
     pub(crate) fn of_url(fault: UrlFault, place: Place) -> MasterFault
         ensures { result ≡ of_url place fault }
     {

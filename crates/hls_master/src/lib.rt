@@ -1,4 +1,4 @@
-//! Master playlists (RFC 8216, 4.3.4): their lines, and the tracks that they tell.
+//! Multivariant (master) playlists (RFC 8216, 4.3.4): their lines, and their tracks.
 #![tactic(auto)]
 
 mod address;

@@ -36,8 +36,8 @@ impl Model for Master {
 }
 
 impl Master {
-    /// The tracks in order: video, audio and text; audio and text by the first sight of their set, and the tracks of one
-    /// set by their first mention, EXT-X-MEDIA before EXT-X-STREAM-INF. At most 200, and at least one.
+    /// The tracks in order: video, audio and text; audio and text by the first mention of their set, and the tracks of
+    /// one set by their first mention, EXT-X-MEDIA before EXT-X-STREAM-INF. At most 200, and at least one.
     pub fn tracks(&self) -> &MasterTracks
         ensures { result.now ≡ self.now }
     {
@@ -45,9 +45,10 @@ impl Master {
     }
 }
 
-/// Reads a master playlist (RFC 8216 4.3.4), whose own address is the base.
+/// Reads a master playlist (RFC 8216 4.3.4), whose own URL is the base.
 ///
-/// The faults of lines come first, in the order of the lines; then those of the whole, as [`MasterFault`] has them.
+/// The faults of lines come first, in the order of the lines; then those of the whole, as [`MasterFault`] orders
+/// them.
 #[tactic(auto, unfolding(crate::specs::Masters::master_of))]
 pub fn read_master(alloc: Global, bytes: &[u8], base: &Base) -> Result<Master, MasterFault>
     ensures { Gives (λ master. map track_seen master) refusal result (master_of bytes.now base.now) }
@@ -57,7 +58,7 @@ pub fn read_master(alloc: Global, bytes: &[u8], base: &Base) -> Result<Master, M
     Ok(Master { tracks })
 }
 
-/// The place behind all bytes.
+/// The position after all bytes.
 fn end_of(bytes: &[u8]) -> Place
     ensures { result ≡ place_of bytes.now (length bytes.now) }
 {
@@ -80,7 +81,7 @@ fn tracks_in(
     tracks_of(alloc, &mentions, end)
 }
 
-/// The tracks of what lines mention, or the first fault of the whole, the file's end being at a place.
+/// The tracks of what lines mention, or the first fault of the whole; `end` is the file's end.
 #[tactic(auto, unfolding(crate::specs::Masters::whole_of))]
 fn tracks_of(
     alloc: Global,
@@ -145,7 +146,7 @@ fn few_tracks(
     }
 }
 
-/// The first mention of each address; none where there are more than 200.
+/// The first mention of each URL; `None` where there are more than 200.
 #[tactic(auto, unfolding(crate::specs::Tracks::firsts_of))]
 fn firsts_of<'m, 'a>(
     alloc: Global,

@@ -1,4 +1,4 @@
-// Lines that mention addresses.
+// Lines that mention URLs.
 ghost use Rattle.std.specs.Prelude.{◌≡◌, [], ◌++◌, map, filter, option_map, IfOk, OnOk};
 ghost use Rattle.std.specs.List.{list_any};
 ghost use Rattle.hls_master.specs.SeenTags.{rendition_seen, variant_seen};
@@ -13,7 +13,7 @@ use bridge_io::{Kind, NoMemory};
 use std::alloc::Global;
 use url_parts::Address;
 
-/// A line that mentions an address.
+/// A line that mentions a URL.
 #[derive(Clone, Copy)]
 pub(crate) enum Mention<'m, 'a> {
     Rendition(&'m Rendition<'a>),
@@ -42,7 +42,7 @@ impl<'m, 'a> Mention<'m, 'a> {
         }
     }
 
-    /// Whether both are of one set.
+    /// Whether both are of the same set.
     pub(crate) fn has_set_of(self, other: Mention<'_, '_>) -> bool
         ensures { result ≡ same_set (mention_seen self.entry) (mention_seen other.entry) }
     {
@@ -75,7 +75,7 @@ pub(crate) fn mentions_of<'m, 'a>(
     Ok(mentions)
 }
 
-/// The first mention of each address; none where there are more than 200.
+/// The first mention of each URL; `None` where there are more than 200.
 pub(crate) fn find_firsts<'m, 'a>(
     alloc: Global,
     mentions: &[Mention<'m, 'a>],

@@ -1,4 +1,4 @@
-// What the lines of a master mention.
+// What the lines of a master playlist mention.
 ghost use Rattle.std.specs.Prelude.{◌≡◌, [], ◌∷◌, ◌++◌, Some, OnOk};
 ghost use Rattle.bridge_io.specs.Answer.{Gives};
 ghost use Rattle.hls_master.specs.Entries.{entries_of, known_lines};
@@ -17,7 +17,7 @@ use hls_lines::Lines;
 use std::alloc::Global;
 use url_parts::Base;
 
-/// The renditions and the variants of a master, each in the order of the lines.
+/// The renditions and the variants of a master playlist, each in the order of the lines.
 #[derive(Drop)]
 pub(crate) struct Mentions<'a> {
     pub(crate) renditions: Vec<Rendition<'a>>,
@@ -50,7 +50,7 @@ impl<'a> Mentions<'a> {
         }
     }
 
-    /// Adds what an entry mentions, or tells its first fault. The names are those of the renditions.
+    /// Adds what an entry mentions, or returns its first fault. The names are those of the renditions.
     fn add(
         &mut self,
         alloc: Global,

@@ -24,7 +24,7 @@ impl<'a> Names<'a> {
         }
     }
 
-    /// Adds the kind, group and name of a rendition, and says whether they are new.
+    /// Adds the kind, group and name of a rendition, and returns whether they are new.
     pub(crate) fn add(&mut self, rendition: &Rendition<'a>) -> Result<bool, NoMemory>
         ensures fresh { IfOk result (λ fresh. fresh ≡ not (is_named self.old (rendition_seen rendition.now))) }
         ensures added { OnOk result ((before : List RenditionValue) → NamesOf self.old before

@@ -19,7 +19,7 @@ use mpd_values::is_language;
 use std::alloc::Global;
 use url_parts::{Address, Base};
 
-/// A rendition of audio or text (RFC 8216 4.3.4.1).
+/// An audio or text rendition (RFC 8216 4.3.4.1).
 #[derive(Drop)]
 pub struct Rendition<'a> {
     /// Audio or text, by TYPE.
@@ -30,12 +30,12 @@ pub struct Rendition<'a> {
     pub name: &'a str,
     /// LANGUAGE.
     pub language: Option<&'a str>,
-    /// What the URI gives.
+    /// The URL of the URI.
     pub address: Address,
 }
 
 impl Rendition<'_> {
-    /// Whether both have one kind, name and language.
+    /// Whether both have the same kind, name and language.
     pub fn has_set_of(&self, other: &Rendition<'_>) -> bool
         ensures { result ≡ same_rendition_set (rendition_seen self.now) (rendition_seen other.now) }
     {
@@ -67,7 +67,7 @@ pub(crate) fn same_text(one: Option<&str>, other: Option<&str>) -> bool
     }
 }
 
-/// The rendition that an EXT-X-MEDIA tells; none where it is of closed captions.
+/// The rendition of an EXT-X-MEDIA; `None` for closed captions.
 pub fn read_rendition<'a>(
     alloc: Global,
     base: &Base,

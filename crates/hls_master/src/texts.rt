@@ -1,4 +1,4 @@
-// Texts of which only matters which are there.
+// Sets of texts.
 ghost use Rattle.std.specs.Prelude.{◌≡◌, [], ◌∷◌, not, IfOk, OnOk};
 ghost use Rattle.std.specs.Bool.{OnFalse};
 
@@ -7,7 +7,7 @@ use std::alloc::Global;
 use std::collections::BTreeSet;
 use std::marker::Model;
 
-/// Texts, each once.
+/// A set of texts.
 #[derive(Drop)]
 pub(crate) struct Texts<'a> {
     texts: BTreeSet<&'a str>,
@@ -33,7 +33,7 @@ impl<'a> Texts<'a> {
         }
     }
 
-    /// Adds a text, and says whether it is new.
+    /// Adds a text, and returns whether it is new.
     pub(crate) fn add(&mut self, text: &'a str) -> Result<bool, NoMemory>
         ensures fresh { IfOk result (λ fresh. fresh ≡ not (is_among text.now self.old)) }
         ensures kept { IfOk result (λ fresh. OnFalse fresh (self.new ≡ self.old)) }
@@ -42,7 +42,7 @@ impl<'a> Texts<'a> {
         Ok(self.texts.insert(text)?)
     }
 
-    /// Whether a text is there.
+    /// Whether a text is a member.
     pub(crate) fn has(&self, text: &str) -> bool
         ensures { result ≡ is_among text.now self.now }
     {

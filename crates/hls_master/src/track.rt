@@ -1,4 +1,4 @@
-// The tracks of a master.
+// The tracks of a master playlist.
 ghost use Rattle.std.specs.Prelude.{◌≡◌, ◌++◌, map, filter, option_map, option_and_then, IfOk, OnOk};
 ghost use Rattle.hls_master.specs.Codes.{selected};
 ghost use Rattle.hls_master.specs.SeenTags.{rendition_seen, text_seen, variant_seen};
@@ -14,30 +14,30 @@ use bridge_io::{Kind, NoMemory, Ratio, Sequence, Size, Text};
 use std::alloc::Global;
 use url_parts::Address;
 
-/// A track of a master.
+/// A track of a master playlist.
 #[derive(Drop)]
 pub struct MasterTrack {
-    /// What it holds.
+    /// Its kind.
     pub kind: Kind,
     /// The number of its set in the order of the tracks, from 0: all video tracks are one set; so are the renditions of
-    /// one kind, NAME and LANGUAGE, and the audio tracks that no EXT-X-MEDIA mentions.
+    /// the same kind, NAME and LANGUAGE, and the audio tracks that no EXT-X-MEDIA mentions.
     pub set: usize,
-    /// Where its media playlist lies.
+    /// The URL of its media playlist.
     pub address: Address,
     /// The LANGUAGE of a rendition (RFC 8216 4.3.4.1).
     pub language: Option<Text>,
-    /// Its codes, joined by `,` (RFC 6381).
+    /// Its codecs, joined by `,` (RFC 6381).
     pub codecs: Option<Text>,
-    /// Bits a second: the BANDWIDTH of a variant (RFC 8216 4.3.4.2); 128,000 for a rendition of audio and 1,000 for one
-    /// of text, of which a master states none.
+    /// Bits per second: the BANDWIDTH of a variant (RFC 8216 4.3.4.2); 128,000 for an audio rendition and 1,000 for a
+    /// text rendition, for which a master playlist gives none.
     pub bandwidth: u64,
     /// The RESOLUTION of a variant, in pixels.
     pub size: Option<Size>,
-    /// The FRAME-RATE of a variant in thousandths, frames a second.
+    /// The FRAME-RATE of a variant, in frames per second, to thousandths.
     pub frame_rate: Option<Ratio>,
 }
 
-/// The tracks of a master in order.
+/// The tracks of a master playlist in order.
 pub type MasterTracks = Sequence<MasterTrack>;
 
 /// The tracks of first mentions, in order.

@@ -6,7 +6,7 @@ ghost use Rattle.hls_master.specs.Values.{number_below, size_within, rate_within
 
 use bridge_io::{Ratio, Size};
 
-/// The decimal number that a text is, where it is below a bound.
+/// A text as a decimal number, where it is below a bound.
 pub(crate) fn read_number(text: &str, bound: u64) -> Option<u64>
     ensures { result ≡ number_below bound text.now }
 {
@@ -39,7 +39,7 @@ pub(crate) fn read_size(text: &str) -> Option<Size>
     Some(Size { width, height })
 }
 
-/// Frames a second below 2^20 (RFC 8216 4.2, decimal-floating-point), cut to thousandths.
+/// Frames per second below 2^20 (RFC 8216 4.2, decimal-floating-point), truncated to thousandths.
 pub(crate) fn read_frame_rate(text: &str) -> Option<Ratio>
     ensures { option_map (λ rate. (rate.n, rate.m)) result ≡ rate_within text.now }
 {
@@ -52,7 +52,7 @@ pub(crate) fn read_frame_rate(text: &str) -> Option<Ratio>
     Some(Ratio { n, m: 1000 })
 }
 
-/// The thousandths that the first three digits behind a point tell.
+/// The thousandths of the first three digits after a decimal point.
 fn first_thousandths(digits: &[u8]) -> u32
     ensures value { result ≡ thousandths digits.now }
     ensures small { result < 2 ^ 15 }
@@ -60,7 +60,7 @@ fn first_thousandths(digits: &[u8]) -> u32
     100 * digit_at(digits, 0) + 10 * digit_at(digits, 1) + digit_at(digits, 2)
 }
 
-/// The digit at a place, 0 behind the last one.
+/// The digit at an index, 0 after the last one.
 fn digit_at(digits: &[u8], place: usize) -> u32
     ensures value { result ≡ digit_at digits.now place }
     ensures small { result < 256 }

@@ -1,4 +1,4 @@
-// Variants: EXT-X-STREAM-INF and the URI behind it.
+// Variants: EXT-X-STREAM-INF and the URI after it.
 ghost use Rattle.std.specs.Prelude.{◌≡◌, [], ◌∷◌, codes, option_and_then, unwrap_or};
 ghost use Rattle.std.specs.Option.{is_some};
 ghost use Rattle.bridge_io.specs.Answer.{Gives};
@@ -28,32 +28,32 @@ use url_parts::{Address, Base};
 /// A variant (RFC 8216 4.3.4.2).
 #[derive(Drop)]
 pub struct Variant<'a> {
-    /// Where its EXT-X-STREAM-INF stands.
+    /// The position of its EXT-X-STREAM-INF.
     pub place: Place,
-    /// BANDWIDTH, in bits a second.
+    /// BANDWIDTH, in bits per second.
     pub bandwidth: u64,
-    /// What it shows of its media.
+    /// The properties of its media.
     pub shown: Shown<'a>,
     /// AUDIO, the group of its audio renditions.
     pub audio: Option<&'a str>,
     /// SUBTITLES, the group of its text renditions.
     pub subtitles: Option<&'a str>,
-    /// What the URI gives.
+    /// The URL of the URI.
     pub address: Address,
 }
 
-/// What a variant shows of its media.
+/// The properties of a variant's media.
 #[derive(Clone, Copy)]
 pub struct Shown<'a> {
-    /// CODECS, a list of codes (RFC 6381).
+    /// CODECS, a list of codecs (RFC 6381).
     pub codecs: Option<&'a str>,
     /// RESOLUTION, in pixels.
     pub size: Option<Size>,
-    /// FRAME-RATE in thousandths, frames a second.
+    /// FRAME-RATE, in frames per second, to thousandths.
     pub frame_rate: Option<Ratio>,
 }
 
-/// The variant that an EXT-X-STREAM-INF and a URI tell.
+/// The variant of an EXT-X-STREAM-INF and a URI.
 pub fn read_variant<'a>(
     alloc: Global,
     base: &Base,
@@ -159,7 +159,7 @@ fn read_rate(rate: Option<&str>, place: Place) -> Result<Option<Ratio>, MasterFa
 }
 
 impl<'a> Variant<'a> {
-    /// Whether CODECS holds a code that a track of this kind has.
+    /// Whether CODECS has a codec for a track of this kind.
     pub fn has_code(&self, kind: Kind) -> bool
         ensures { result ≡ has_code_in kind (text_seen self.now.shown.codecs) }
     {
@@ -169,14 +169,14 @@ impl<'a> Variant<'a> {
         }
     }
 
-    /// Whether it is audio alone: CODECS holds a code of audio, and none of video or of an unknown class.
+    /// Whether it is audio only: CODECS has an audio codec, and none of video or of an unknown class.
     pub fn is_audio(&self) -> bool
         ensures { result ≡ is_audio_variant (variant_seen self.now) }
     {
         self.has_code(Kind::Audio) && !self.has_code(Kind::Video)
     }
 
-    /// What a track of its own would hold: audio where it is audio alone, otherwise video.
+    /// The kind of its track: audio where it is audio only, otherwise video.
     pub(crate) fn kind(&self) -> Kind
         ensures { result ≡ variant_kind (variant_seen self.now) }
     {

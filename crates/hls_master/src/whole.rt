@@ -10,7 +10,7 @@ use crate::variant::Variant;
 use bridge_io::{Kind, NoMemory, Place};
 use std::alloc::Global;
 
-/// Where the first variant stands that names a group which no rendition of that type has.
+/// The position of the first variant that names a group which no rendition of that type has.
 pub(crate) fn find_unknown_group(
     alloc: Global,
     renditions: &[Rendition<'_>],
@@ -61,7 +61,7 @@ fn is_known(groups: &Texts<'_>, group: Option<&str>) -> bool
     }
 }
 
-/// Where the first variant stands that holds audio beside other media.
+/// The position of the first variant with audio and other media.
 pub(crate) fn find_muxed(
     alloc: Global,
     renditions: &[Rendition<'_>],
@@ -95,7 +95,7 @@ fn first_muxed(addresses: &Texts<'_>, variants: &[Variant<'_>]) -> Option<Place>
     None
 }
 
-/// Whether a variant, whose address no rendition has, isn't audio alone, names no audio, and has an audio code.
+/// Whether a variant, whose URL no rendition has, isn't audio only, names no audio group, and has an audio codec.
 fn is_muxed(addresses: &Texts<'_>, variant: &Variant<'_>) -> bool
     ensures { result ≡ is_muxed addresses.now (variant_seen variant.now) }
 {

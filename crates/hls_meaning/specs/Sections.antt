@@ -6,7 +6,7 @@ use Rattle.url_parts.specs.declared.address.Part.{Part}
 use Rattle.hls_media.specs.declared.media.MediaSegment.{MediaSegment}
 use Rattle.meaning.specs.Meanings.{Segment, Entry}
 
--- a number among rising ones, where it isn't there yet
+-- a number inserted into rising ones, unless it is there already
 abbrev pub with_number : ℕ → List ℕ → List ℕ
 with_number n [] = n ∷ []
 with_number n (m ∷ later) = if n == m then m ∷ later else (if nat_lt n m then n ∷ m ∷ later else m ∷ with_number n later)
@@ -23,7 +23,7 @@ is_in number s = s.section == number
 abbrev pub segments_in : ℕ → List MediaSegment → List MediaSegment
 segments_in number segments = filter (is_in number) segments
 
--- so many nanoseconds
+-- a number of nanoseconds
 abbrev pub nanoseconds : ℕ → Time
 nanoseconds count = in_units (10 ^ 9) count
 
@@ -39,7 +39,7 @@ timed start (s ∷ later) =
 abbrev pub no_part : Part
 no_part = record { address = []; range = None }
 
--- what some segments are together: the first one's map, and each one with its times
+-- the entry of some segments: the first one's map, and each one with its times
 abbrev pub entry_of : List MediaSegment → Option Entry
 entry_of [] = None
 entry_of (s ∷ later) = Some (record { initialization = unwrap_or s.map no_part; segments = timed 0 (s ∷ later) })

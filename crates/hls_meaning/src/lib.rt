@@ -1,7 +1,8 @@
-//! What a master and its media playlists mean (RFC 8216, 4.3), as a value that the MPD of the same presentation has too.
+//! What a multivariant playlist (master) and its media playlists mean (RFC 8216, 4.3), as a value that the MPD of the same
+//! presentation also has.
 //!
-//! The definition stands in `specs/`. It has no limit and no bound: it tells what playlists mean that are written, whether
-//! a reader with limits takes them or not.
+//! The definition is in `specs/`. It has no limits and no bounds: it says what playlists mean, whether a reader with
+//! limits accepts them or not.
 #![tactic(auto)]
 
 mod laws;

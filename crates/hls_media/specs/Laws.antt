@@ -1,4 +1,4 @@
--- What playlists that are read have in common.
+-- Laws of playlists that were read.
 use Rattle.std.specs.{Prelude.{◌≡◌, ℕ, ◌^◌, ◌<◌, ◌≤◌, List, length, Ok, IfSome}, List.All, List.Sorted.IsNonDecreasingBy}
 use Rattle.hls_lines.specs.Lines.{PlaylistLine, lines_of}
 use Rattle.url_parts.specs.{declared.address.Part.Part, declared.range.Range.Range}
@@ -7,7 +7,7 @@ use Rattle.hls_media.specs.declared.media.MediaSegment.{MediaSegment}
 
 -- ---- bounds
 
--- A range isn't empty, and ends below 2^63.
+-- A byte range isn't empty, and ends below 2^63.
 pub record IsBoundedRange (range : Range) : Type 0 where
   pub count : 1 ≤ range.count
   pub ends : end_of range < 2 ^ 63
@@ -21,7 +21,7 @@ pub record IsBoundedSegment (segment : MediaSegment) : Type 0 where
   pub range : IfSome segment.range IsBoundedRange
   pub map : IfSome segment.map IsBoundedPart
 
--- The numbers of a playlist are bounded, and no section's number is below that of a segment before.
+-- The numbers of a playlist are bounded, and no section's number is below that of an earlier segment.
 pub record IsBounded (media : Media) : Type 0 where
   pub target : media.target < 2 ^ 31
   pub sequence : media.sequence < 2 ^ 63

@@ -1,4 +1,4 @@
--- Media playlists (RFC 8216 4.3.2 and 4.3.3): what their lines mean, and which lines are at fault.
+-- Media playlists (RFC 8216 4.3.2 and 4.3.3): what their lines mean, and which lines are invalid.
 use Rattle.hls_media.specs.declared.fault.MediaFault.TheVariants as fault
 use Rattle.hls_media.specs.declared.tag.Tag.TheVariants as tags
 use Rattle.std.specs.Prelude.{ℕ, ◌+◌, ◌-◌, ◌*◌, ◌^◌, ◌==◌, ◌&&◌, ◌||◌, not, nat_lt, Bool, true, false, List, [], ◌∷◌, ◌++◌, length, codes}
@@ -17,30 +17,30 @@ use Rattle.hls_media.specs.{declared.media.MediaSegment.MediaSegment, declared.t
 abbrev pub no_range : Range
 no_range = record { first = 0; count = 0 }
 
--- the attributes of a text that lists attributes
+-- the attributes of an attribute list
 abbrev pub listed : List ℕ → List NameValue
 listed text = unwrap_or (attributes_at text) []
 
--- a sub-range that begins at 0 where it has no offset
+-- a byte range that begins at 0 where it has no offset
 abbrev pub map_range : List ℕ → Range
 map_range text = unwrap_or (range_from (Some 0) text) no_range
 
--- what an EXT-X-MAP names
+-- the init segment of an EXT-X-MAP
 unfoldable pub map_value : List ℕ → List ℕ → Part
 map_value url rest = record {
   address = address_of url (unwrap_or (value_of (codes "URI") (listed rest)) []);
   range = option_map map_range (value_of (codes "BYTERANGE") (listed rest));
 }
 
--- the last of a list
+-- the last member of a list
 abbrev pub last_of : {A : Type 0} → List A → Option A
 last_of members = slice_get members (length members - 1)
 
--- where a segment's range ends, if it has one of that address
+-- where a segment's byte range ends, if it has one of that URL
 abbrev pub end_within : List ℕ → MediaSegment → Option ℕ
 end_within address segment = if bytes_eq segment.address address then option_map end_of segment.range else None
 
--- where a range of an address begins that has no offset
+-- where a byte range without offset begins for a URL
 abbrev pub former_end : List ℕ → List MediaSegment → Option ℕ
 former_end address segments = option_and_then (end_within address) (last_of segments)
 
@@ -57,7 +57,7 @@ segment_value url s text = let address = address_of url text in record {
   section = section_of s;
 }
 
--- what a tag tells
+-- the state after a tag
 abbrev pub after_tag : List ℕ → State → Tag → List ℕ → Place → State
 after_tag url s tags.TargetDuration rest place = record s { target = Some (unwrap_or (number_of rest) 0) }
 after_tag url s tags.MediaSequence rest place = record s { sequence = Some (unwrap_or (number_of rest) 0) }
@@ -103,11 +103,11 @@ abbrev pub value_or_fault : {A : Type 0} → Place → Option A → Result A Med
 value_or_fault place (Some value) = Ok value
 value_or_fault place None = Err (fault.Value place)
 
--- the target duration, which is told once
+-- the target duration, which may occur only once
 abbrev pub target_of : State → List ℕ → Place → Result ℕ MediaFault
 target_of s rest place = if is_some s.target then Err (fault.Misplaced place) else value_or_fault place (below (2 ^ 31) (number_of rest))
 
--- a number that is told once, and before the first segment
+-- a number that may occur only once, before the first segment
 abbrev pub early_number_of : State → Option ℕ → List ℕ → Place → Result ℕ MediaFault
 early_number_of s former rest place = if is_some former || not (length s.segments == 0) then Err (fault.Misplaced place)
     else value_or_fault place (below (2 ^ 63) (number_of rest))
@@ -117,12 +117,12 @@ abbrev pub length_or_fault : Place → Option ℕ → Result ℕ MediaFault
 length_or_fault place None = Err (fault.Value place)
 length_or_fault place (Some nanos) = if nat_lt (10 ^ 15) nanos then Err (fault.Duration place) else Ok nanos
 
--- a duration, which one URI follows
+-- a duration, which a URI has to follow
 abbrev pub length_of : State → List ℕ → Place → Bool → Result ℕ MediaFault
 length_of s rest place uri_follows = if is_some s.duration || not uri_follows then Err (fault.Misplaced place)
     else length_or_fault place (duration_of rest)
 
--- a range, which a URI follows
+-- a byte range, which a URI has to follow
 abbrev pub written_range_of : List ℕ → Place → Bool → Result (List ℕ) MediaFault
 written_range_of rest place uri_follows = if not uri_follows then Err (fault.Misplaced place)
     else (if is_range rest then Ok rest else Err (fault.Value place))
@@ -135,12 +135,12 @@ abbrev pub address_or_fault : Place → Result (List ℕ) UrlFault → Result (L
 address_or_fault place (Ok address) = Ok address
 address_or_fault place (Err f) = Err (fault.Url f place)
 
--- a sub-range of a map, if one is written
+-- the byte range of a map, if there is one
 abbrev pub map_range_of : Place → Option (List ℕ) → Result (Option Range) MediaFault
 map_range_of place None = Ok None
 map_range_of place (Some text) = and_then (value_or_fault place (fitting (range_from (Some 0) text))) (λ range. Ok (Some range))
 
--- an address of a map with its range
+-- the URL of a map with its byte range
 abbrev pub map_at : List ℕ → Place → List ℕ → Option Range → Result Part MediaFault
 map_at url place reference range = and_then (address_or_fault place (resolve url reference))
     (λ address. Ok (record { address = address; range = range }))
@@ -183,7 +183,7 @@ abbrev pub range_or_fault : Place → Option Range → Result (Option Range) Med
 range_or_fault place (Some range) = Ok (Some range)
 range_or_fault place None = Err (fault.RangeStart place)
 
--- the range of a segment, if one is written
+-- the byte range of a segment, if there is one
 abbrev pub segment_range : State → List ℕ → Option (List ℕ × Place) → Result (Option Range) MediaFault
 segment_range s address None = Ok None
 segment_range s address (Some written) = range_or_fault written.1 (fitting (range_from (former_end address s.segments) written.0))
@@ -206,7 +206,7 @@ segment_lasting url s text place (Some duration) = segment_at url s text place d
 unfoldable pub segment_of : List ℕ → State → List ℕ → Place → Result MediaSegment MediaFault
 segment_of url s text place = segment_lasting url s text place s.duration
 
--- the fault of a line, of which it is known whether a URI follows in the file
+-- the fault of a line, given whether a URI follows in the file
 abbrev pub line_fault : List ℕ → State → PlaylistLine → Bool → Option MediaFault
 line_fault url s (tag name rest place) uri_follows = tag_fault url s (tag_of name) rest place uri_follows
 line_fault url s (uri text place) uri_follows = fault_in (segment_of url s text place)
@@ -215,7 +215,7 @@ abbrev pub with_fault : Option MediaFault → List MediaFault → List MediaFaul
 with_fault None others = others
 with_fault (Some f) others = f ∷ others
 
--- the faults of lines, in their order
+-- the faults of lines, in order
 abbrev pub line_faults : List ℕ → State → List PlaylistLine → List MediaFault
 line_faults url s [] = []
 line_faults url s (line ∷ lines) = with_fault (line_fault url s line (list_any is_uri lines)) (line_faults url (after url s line) lines)
@@ -229,7 +229,7 @@ is_long target (Some nanos) = nat_lt (target * 10 ^ 9 + 5 * 10 ^ 8) nanos
 abbrev pub is_short : ℕ → MediaSegment → Bool
 is_short target segment = not (is_long target (Some segment.duration))
 
--- such durations, where they are told
+-- the faults of such durations, at their lines
 abbrev pub long_faults : ℕ → List PlaylistLine → List MediaFault
 long_faults target [] = []
 long_faults target (uri text place ∷ lines) = long_faults target lines
@@ -237,12 +237,12 @@ long_faults target (tag name rest place ∷ lines) =
     with_fault (unless (not (bytes_eq name (codes "EXTINF") && is_long target (duration_of rest))) (fault.LongSegment place))
     (long_faults target lines)
 
--- the faults of all lines together
+-- the faults of the playlist as a whole
 abbrev pub whole_faults : Place → Option ℕ → List PlaylistLine → List MediaFault
 whole_faults end None lines = fault.NoTarget end ∷ []
 whole_faults end (Some target) lines = long_faults target lines
 
--- the faults of a playlist of these lines, of which the first is told
+-- the faults of a playlist of these lines; the first one is reported
 abbrev pub faults_of : Place → List ℕ → List PlaylistLine → List MediaFault
 faults_of end url lines = line_faults url nothing lines ++ whole_faults end (after_all url nothing lines).target lines
 
@@ -263,7 +263,7 @@ media_in end url lines = values_or_fault (first_of (faults_of end url lines)) (m
 unfoldable pub media_of : List ℕ → List ℕ → Result Media MediaFault
 media_of bytes url = and_then (lines_or_fault (lines_of bytes)) (media_in (place_of bytes (length bytes)) url)
 
--- want of memory tells nothing of the playlist
+-- out of memory says nothing about the playlist
 abbrev pub refusal : MediaFault → Option MediaFault
 refusal fault.Memory = None
 refusal f = Some f

@@ -1,4 +1,4 @@
--- What the lines before a place in a media playlist tell.
+-- The state after some lines of a media playlist.
 use Rattle.std.specs.Prelude.{ℕ, Bool, false, List, [], Option, None}
 use Rattle.bridge_io.specs.declared.place.Place.{Place}
 use Rattle.url_parts.specs.declared.address.Part.{Part}
@@ -14,9 +14,9 @@ pub record State : Type 0 where
   -- the discontinuities so far
   pub discontinuities : ℕ
   pub ended : Bool
-  -- the duration of the segment to come, in nanoseconds
+  -- the duration of the next segment, in nanoseconds
   pub duration : Option ℕ
-  -- the range of the segment to come as it is written, and where that is told
+  -- the byte range of the next segment as it is written, and its position
   pub range : Option (List ℕ × Place)
   pub map : Option Part
   pub segments : List MediaSegment

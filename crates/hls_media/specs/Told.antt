@@ -1,4 +1,4 @@
--- What the lines of a media playlist tell, in words over whole lists (RFC 8216 4.3.2 and 4.3.3).
+-- What the lines of a media playlist mean, defined over whole lists (RFC 8216 4.3.2 and 4.3.3).
 use Rattle.hls_media.specs.declared.tag.Tag.TheVariants as tags
 use Rattle.std.specs.Prelude.{◌≡◌, ℕ, ◌+◌, ◌++◌, Bool, true, false, List, [], ◌∷◌, length, reverse, slice_get, count_by, if◌then◌else◌}
 use Rattle.std.specs.Prelude.{Option, Some, None, option_map, unwrap_or, is_some}
@@ -46,36 +46,36 @@ abbrev pub is_of : (Tag → Bool) → PlaylistLine → Bool
 is_of kind (tag name rest place) = kind (tag_of name)
 is_of kind (uri text place) = false
 
--- ---- what tags tell
+-- ---- values of tags
 
--- what the first tag of a kind tells, and where
+-- the value of the first tag of a kind, and its position
 abbrev pub first_told : (Tag → Bool) → List PlaylistLine → Option (List ℕ × Place)
 first_told kind [] = None
 first_told kind (tag name rest place ∷ lines) = if kind (tag_of name) then Some (rest, place) else first_told kind lines
 first_told kind (uri text place ∷ lines) = first_told kind lines
 
--- the same where no URI stands before it
+-- the same where no URI is before it
 abbrev pub told_first : (Tag → Bool) → List PlaylistLine → Option (List ℕ × Place)
 told_first kind [] = None
 told_first kind (tag name rest place ∷ lines) = if kind (tag_of name) then Some (rest, place) else told_first kind lines
 told_first kind (uri text place ∷ lines) = None
 
--- what the last tag of a kind tells
+-- the value of the last tag of a kind
 abbrev pub last_told : (Tag → Bool) → List PlaylistLine → Option (List ℕ × Place)
 last_told kind lines = first_told kind (reverse lines)
 
--- and the last one behind the last URI
+-- and of the last one after the last URI
 abbrev pub told_since : (Tag → Bool) → List PlaylistLine → Option (List ℕ × Place)
 told_since kind lines = told_first kind (reverse lines)
 
--- the number that the last tag of a kind tells, or 0
+-- the number of the last tag of a kind, or 0
 abbrev pub number_told : (Tag → Bool) → List PlaylistLine → ℕ
 number_told kind lines = unwrap_or (option_map (λ told. unwrap_or (number_of told.0) 0) (last_told kind lines)) 0
 
--- The segment of a URI, of which the lines before it are given: its map is that of the last EXT-X-MAP before it, its section
--- is the last EXT-X-DISCONTINUITY-SEQUENCE with one more for each EXT-X-DISCONTINUITY before it, its duration and range are
--- those of the last EXTINF and EXT-X-BYTERANGE since the URI before it; a range without offset begins where the segment
--- before it ends, if that has a range of the same address.
+-- The segment of a URI, given the lines before it: its map is that of the last EXT-X-MAP before it, its section is the last
+-- EXT-X-DISCONTINUITY-SEQUENCE plus one for each EXT-X-DISCONTINUITY before it, its duration and byte range are those of the
+-- last EXTINF and EXT-X-BYTERANGE since the previous URI; a byte range without offset begins where the previous segment
+-- ends, if that has a byte range of the same URL.
 abbrev pub segment_behind : List ℕ → List PlaylistLine → List ℕ → MediaSegment
 segment_behind url before text = let address = address_of url text in record {
   address = address;
@@ -88,13 +88,13 @@ segment_behind url before text = let address = address_of url text in record {
 
 -- ---- laws
 
--- each URI ends a segment, which is told by the lines before it
+-- each URI ends a segment, which the lines before it determine
 abbrev pub SegmentsAreTold : Type 0
 SegmentsAreTold = (url : List ℕ) (before : List PlaylistLine) (text : List ℕ) (place : Place) (behind : List PlaylistLine)
     → slice_get (media_values url (before ++ uri text place ∷ behind)).segments (count_by is_uri before)
     ≡ Some (segment_behind url before text)
 
--- there is a segment for each URI, and the last tag of a kind tells a playlist's number
+-- there is a segment for each URI, and the last tag of a kind gives a playlist's number
 pub record IsTold (url : List ℕ) (lines : List PlaylistLine) : Type 0 where
   pub target : (media_values url lines).target ≡ number_told is_target lines
   pub sequence : (media_values url lines).sequence ≡ number_told is_sequence lines

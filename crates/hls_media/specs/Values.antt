@@ -29,7 +29,7 @@ below bound (Some n) = if nat_lt n bound then Some n else None
 
 -- ---- durations of EXTINF
 
--- decimal digits, at least so many and at most so many
+-- decimal digits, between a least and a greatest number of them
 abbrev pub is_run : ℕ → ℕ → List ℕ → Bool
 is_run least most digits = all_ascii_digits digits && nat_le least (length digits) && nat_le (length digits) most
 
@@ -41,11 +41,11 @@ abbrev pub nanos_of : List ℕ × List ℕ → Option ℕ
 nanos_of parts = if is_run 1 20 parts.0 && is_run 0 30 parts.1
     then Some (digits_value 10 parts.0 * 10 ^ 9 + fraction_nanos parts.1) else None
 
--- a number up to its point and behind it
+-- a number before and after its decimal point
 abbrev pub decimal_parts : List ℕ → List ℕ × List ℕ
 decimal_parts text = unwrap_or (parts_at is_point text) (text, [])
 
--- a text up to its first comma, behind which a title stands
+-- a text up to its first comma, which a title follows
 abbrev pub before_title : List ℕ → List ℕ
 before_title text = (unwrap_or (parts_at is_comma text) (text, [])).0
 
@@ -55,12 +55,12 @@ duration_of text = nanos_of (decimal_parts (before_title text))
 
 -- ---- ranges
 
--- of `n` and `n@o` the count, and the offset where there is one
+-- the count of `n` or `n@o`, and the offset where there is one
 abbrev pub range_parts : Option (List ℕ × List ℕ) → List ℕ → List ℕ × Option (List ℕ)
 range_parts None text = (text, None)
 range_parts (Some parts) text = (parts.0, Some parts.1)
 
--- where a range begins: at its offset, or else where it begins without one
+-- where a byte range begins: at its offset, or else at the default
 abbrev pub first_byte : Option ℕ → Option (List ℕ) → Option ℕ
 first_byte otherwise None = otherwise
 first_byte otherwise (Some offset) = number_of offset
@@ -70,7 +70,7 @@ range_with (Some count) (Some first) = if count == 0 then None else Some (record
 range_with (Some count) None = None
 range_with None first = None
 
--- the range that `n[@o]` tells, where one without offset begins at a place or nowhere
+-- the byte range of `n[@o]`; without offset it begins at the default, if there is one
 unfoldable pub range_from : Option ℕ → List ℕ → Option Range
 range_from otherwise text = let parts = range_parts (parts_at is_at text) text in
     range_with (number_of parts.0) (first_byte otherwise parts.1)
@@ -78,7 +78,7 @@ range_from otherwise text = let parts = range_parts (parts_at is_at text) text i
 abbrev pub end_of : Range → ℕ
 end_of range = range.first + range.count
 
--- a range that ends below 2^63
+-- a byte range that ends below 2^63
 abbrev pub fitting : Option Range → Option Range
 fitting None = None
 fitting (Some range) = if nat_lt (end_of range) (2 ^ 63) then Some range else None

@@ -1,4 +1,4 @@
--- What a reader of a playlist knows, as a state.
+-- The state of a reader of a playlist.
 use Rattle.std.specs.Prelude.{◌≡◌, ℕ, List, Option, Some, None, option_map, Result, Ok, Err, IfSome}
 use Rattle.bridge_io.specs.declared.place.Place.{Place}
 use Rattle.hls_media.specs.{Media.refusal, States.State, declared.fault.MediaFault.MediaFault, declared.state.Reader.Reader}
@@ -20,7 +20,7 @@ state_of reader = record {
   segments = reader.segments.items;
 }
 
--- a step without a fault leads to a state; a fault is the step's, and want of memory tells nothing
+-- a step without a fault leads to a state; a fault is that of the step, and out of memory says nothing
 abbrev pub Does : Option MediaFault → State → Result (Unit {0}) MediaFault → State → Type 0
 Does fault after (Ok done) state = (fault ≡ None) × (state ≡ after)
 Does fault after (Err told) state = IfSome (refusal told) (λ f. fault ≡ Some f)

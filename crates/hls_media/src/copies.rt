@@ -1,4 +1,4 @@
-// Copies of playlists, which share the texts of their addresses.
+// Copies of playlists, which share the texts of their URLs.
 ghost use Rattle.std.specs.Prelude.{◌≡◌, IfOk};
 
 use crate::{Media, MediaList, MediaSegment};
@@ -7,7 +7,7 @@ use std::alloc::Global;
 use url_parts::Part;
 
 impl Media {
-    /// The same playlist once more. It takes memory for its segments, but none for their addresses.
+    /// The same playlist again. It allocates memory for its segments, but not for their URLs.
     pub fn copy(&self, alloc: Global) -> Result<Media, NoMemory>
         ensures { IfOk result (λ copy. copy ≡ self.now) }
     {
@@ -22,7 +22,7 @@ impl Media {
 }
 
 impl MediaSegment {
-    /// The same segment once more. It takes no memory of its own.
+    /// The same segment again. It allocates nothing.
     pub fn copy(&self, alloc: Global) -> Result<MediaSegment, NoMemory>
         ensures { IfOk result (λ copy. copy ≡ self.now) }
     {

@@ -1,4 +1,4 @@
-// Why a playlist is refused.
+// Why a playlist is rejected.
 ghost use Rattle.std.specs.Prelude.{◌≡◌};
 ghost use Rattle.hls_media.specs.declared.fault.MediaFault.TheVariants.{Memory};
 
@@ -7,14 +7,14 @@ use hls_lines::LineFault;
 use thiserror::Error;
 use url_parts::UrlFault;
 
-/// Why a file is no media playlist that can be read, and where: at a line's first byte, unless said otherwise. Lines are
-/// judged in their order, and then the playlist as a whole.
+/// Why a file can't be read as a media playlist, and where: at a line's first byte, unless noted otherwise. Lines are
+/// checked in order, and then the playlist as a whole.
 #[derive(Clone, Copy, Debug, PartialEq, Eq, Error)]
 pub enum MediaFault {
-    /// The file has no lines of a playlist, or a tag's attributes can't be read.
+    /// The file doesn't have the lines of a playlist, or a tag's attributes can't be read.
     #[error("no lines of a playlist")]
     Line(LineFault),
-    /// There is no EXT-X-TARGETDURATION (RFC 8216 4.3.3.1): the file's length.
+    /// There is no EXT-X-TARGETDURATION (RFC 8216 4.3.3.1): the end of the file.
     #[error("no target duration")]
     NoTarget(Place),
     /// An EXTINF of more than 1,000,000 seconds.
@@ -23,11 +23,11 @@ pub enum MediaFault {
     /// An EXTINF of more than half a second above the target duration (RFC 8216 4.3.3.1).
     #[error("a segment longer than the target duration")]
     LongSegment(Place),
-    /// A range without offset where the segment before it has no range of the same address (RFC 8216 4.3.2.2), or one
-    /// that would end at 2^63 or later: its EXT-X-BYTERANGE.
+    /// A byte range without offset where the segment before it has no byte range of the same URL (RFC 8216 4.3.2.2),
+    /// or one that would end at 2^63 or later: its EXT-X-BYTERANGE.
     #[error("a range without a beginning")]
     RangeStart(Place),
-    /// More than 100,000 segments: the first URI above.
+    /// More than 100,000 segments: the first URI beyond that.
     #[error("too many segments")]
     Limit(Place),
     /// Encrypted segments (RFC 8216 4.3.2.4 and 4.3.4.5).
@@ -42,21 +42,21 @@ pub enum MediaFault {
     /// A tag that isn't supported: EXT-X-GAP, EXT-X-DEFINE or EXT-X-I-FRAMES-ONLY.
     #[error("a tag that isn't supported")]
     Unsupported(Place),
-    /// A URI of a segment or of an EXT-X-MAP that gives no address.
+    /// A URI of a segment or of an EXT-X-MAP that gives no valid URL.
     #[error("a URI that gives no address")]
     Url(UrlFault, Place),
-    /// A value that can't be read, or an attribute that lacks.
+    /// An invalid value, or a missing attribute.
     #[error("a value that can't be read")]
     Value(Place),
-    /// A line that may not stand there.
+    /// A line that isn't allowed there.
     #[error("a line that may not stand there")]
     Misplaced(Place),
-    /// Memory is wanting, which says nothing of the playlist.
+    /// Out of memory, which says nothing about the playlist.
     #[error("out of memory")]
     Memory,
 }
 
-/// Every error that tells want of memory alone.
+/// Every error that only means out of memory.
 impl<E: Drop> From<E> for MediaFault
 where
     NoMemory: From<E>,

@@ -29,7 +29,7 @@ pub struct Media {
     pub target: u64,
     /// The first segment's number, below 2^63 (RFC 8216 4.3.3.2).
     pub sequence: u64,
-    /// Whether no more segments will come (RFC 8216 4.3.3.4).
+    /// Whether it has an EXT-X-ENDLIST: no more segments will be added (RFC 8216 4.3.3.4).
     pub ended: bool,
     /// At most 100,000 segments.
     pub segments: MediaList,
@@ -38,15 +38,16 @@ pub struct Media {
 /// A segment of a playlist.
 #[derive(Drop)]
 pub struct MediaSegment {
-    /// The address of its file.
+    /// The URL of its file.
     pub address: Address,
-    /// Its bytes in the file; none where it is the whole file (RFC 8216 4.3.2.2).
+    /// Its byte range in the file; `None` is the whole file (RFC 8216 4.3.2.2).
     pub range: Option<Range>,
-    /// What its media begin with: the last EXT-X-MAP before it (RFC 8216 4.3.2.5).
+    /// Its init segment: the last EXT-X-MAP before it (RFC 8216 4.3.2.5).
     pub map: Option<Part>,
     /// At most 1,000,000 seconds (RFC 8216 4.3.2.1).
     pub duration: Nanos,
-    /// The number of the playlist's first section (RFC 8216 4.3.3.3), and one more for each discontinuity before it.
+    /// Its discontinuity sequence number: that of the playlist (RFC 8216 4.3.3.3), plus one for each discontinuity
+    /// before it.
     pub section: u64,
 }
 
@@ -68,7 +69,7 @@ fn lines_of(bytes: &[u8]) -> Result<Lines<'_>, MediaFault>
     }
 }
 
-/// The place behind all bytes.
+/// The position after all bytes.
 fn end_of(bytes: &[u8]) -> Place
     ensures { result ≡ place_of bytes.now (length bytes.now) }
 {
@@ -92,8 +93,8 @@ fn media_in(alloc: Global, lines: Lines<'_>, bytes: &[u8], base: &Base) -> Resul
     Ok(reader.finish(target))
 }
 
-/// Where an EXTINF stands for the first time that is more than half a second above the target duration. The lines are
-/// read once more only where one of their segments is.
+/// The position of the first EXTINF that is more than half a second above the target duration. The lines are read
+/// again only where there is such a segment.
 fn first_long(segments: &[MediaSegment], lines: Lines<'_>, target: u64) -> Option<Place>
     requires { list_all (is_short target) segments.now ≡ true → first_of (long_faults target lines) ≡ None }
     ensures { option_map LongSegment result ≡ first_of (long_faults target lines.entry) }

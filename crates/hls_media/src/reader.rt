@@ -33,7 +33,7 @@ const TARGETS: u64 = 1 << 31;
 const LONGEST: u128 = 1_000_000_000_000_000;
 
 impl<'a> Reader<'a> {
-    /// Nothing is told yet. Room for some segments is made.
+    /// The state before the first line, with room for some segments.
     fn new(alloc: Global, segments: usize) -> Result<Reader<'a>, MediaFault>
         ensures ok { IfOk result (λ reader. state_of reader ≡ nothing) }
         ensures fault { IfErr result (λ fault. refusal fault ≡ None) }
@@ -64,7 +64,7 @@ impl<'a> Reader<'a> {
         read_number(rest, TARGETS).ok_or(MediaFault::Value(place))
     }
 
-    /// A number that stands before the first segment, and not twice.
+    /// A number that has to be before the first segment, and may occur only once.
     fn early_number_of(
         &self,
         former: Option<u64>,
@@ -92,7 +92,7 @@ impl<'a> Reader<'a> {
         Ok(Nanos(nanos as u64))
     }
 
-    /// Reads a tag, of which it is known whether a URI follows in the file.
+    /// Reads a tag, given whether a URI follows in the file.
     fn read_tag(
         &mut self,
         alloc: Global,
@@ -134,7 +134,7 @@ impl<'a> Reader<'a> {
         Ok(())
     }
 
-    /// Where a range of an address begins that has no offset: where the segment before it ends.
+    /// Where a byte range without offset begins for a URL: where the segment before it ends.
     fn former_end(&self, address: &Address) -> Option<u128>
         ensures { result ≡ former_end address.now self.now.segments.items }
     {
@@ -205,7 +205,7 @@ impl<'a> Reader<'a> {
     }
 }
 
-/// Where a segment's range ends, if it has one of that address.
+/// Where a segment's byte range ends, if it has one of that URL.
 fn end_within(segment: &MediaSegment, address: &Address) -> Option<u128>
     ensures { result ≡ end_within address.now segment.now }
 {
@@ -263,7 +263,7 @@ fn attributes_of<'a>(
     }
 }
 
-/// What an EXT-X-MAP names.
+/// The init segment of an EXT-X-MAP.
 #[tactic(auto, unfolding(crate::specs::Media::map_of))]
 fn map_of(
     alloc: Global,
@@ -291,7 +291,7 @@ fn map_range_of(text: Option<&str>, place: Place) -> Result<Option<Range>, Media
     Ok(Some(range))
 }
 
-/// Refuses a key whose method isn't NONE.
+/// Rejects a key whose method isn't NONE.
 #[tactic(auto, unfolding(crate::specs::Media::key_of))]
 fn check_key(alloc: Global, rest: &str, place: Place) -> Result<(), MediaFault>
     ensures { Gives (λ done. done) refusal result (key_of rest.now place) }

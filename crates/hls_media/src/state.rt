@@ -1,4 +1,4 @@
-// What the lines before a place in a playlist tell.
+// The state after some lines of a playlist.
 ghost use Rattle.std.specs.Prelude.{◌^◌, ◌<◌};
 ghost use Rattle.std.specs.Option.{ForSome};
 
@@ -7,14 +7,14 @@ use bridge_io::Place;
 use exact_time::Nanos;
 use url_parts::{Part, Resolver};
 
-/// A range as an EXT-X-BYTERANGE writes it.
+/// A byte range as an EXT-X-BYTERANGE writes it.
 #[derive(Clone, Copy)]
 pub(crate) struct WrittenRange<'a> {
     pub(crate) text: &'a str,
     pub(crate) place: Place,
 }
 
-/// What the lines before a place tell.
+/// The state after some lines.
 #[derive(Drop)]
 pub(crate) struct Reader<'a> {
     pub(crate) target: Option<u64>,
@@ -22,13 +22,13 @@ pub(crate) struct Reader<'a> {
     pub(crate) first_section: Option<u64>,
     pub(crate) discontinuities: u64,
     pub(crate) ended: bool,
-    /// The duration of the segment to come.
+    /// The duration of the next segment.
     pub(crate) duration: Option<Nanos>,
-    /// The range of the segment to come.
+    /// The byte range of the next segment.
     pub(crate) range: Option<WrittenRange<'a>>,
     pub(crate) map: Option<Part>,
     pub(crate) segments: Vec<MediaSegment>,
-    /// Resolves the URIs. It tells nothing.
+    /// Resolves the URIs. It is no part of the state.
     pub(crate) resolver: Resolver,
     ghost small: { ForSome first_section (λ number. number < 2 ^ 63) },
 }

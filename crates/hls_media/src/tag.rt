@@ -20,7 +20,7 @@ pub(crate) enum Tag {
     Unsupported,
     /// A tag of master playlists.
     Master,
-    /// A tag that is passed over.
+    /// A tag that is ignored.
     Other,
 }
 

@@ -7,7 +7,7 @@ ghost use Rattle.hls_media.specs.Values as spec;
 use hls_lines::cut_at;
 use url_parts::Range;
 
-/// The bound of places in a file.
+/// The bound of byte offsets in a file.
 const PLACES: u64 = 1 << 63;
 
 fn are_digits(bytes: &[u8]) -> bool
@@ -35,14 +35,14 @@ pub(crate) fn read_number(text: &str, bound: u64) -> Option<u64>
     (number < bound).then_some(number)
 }
 
-/// Whether these are from `least` to `most` digits.
+/// Whether these are `least` to `most` digits.
 fn is_run(digits: &[u8], least: usize, most: usize) -> bool
     ensures { result ≡ spec.is_run least most digits.now }
 {
     are_digits(digits) && least <= digits.len() && digits.len() <= most
 }
 
-/// The number that at most twenty digits write.
+/// The number of at most twenty digits.
 fn number(digits: &[u8]) -> u128
     requires ascii { IsTrue (all_ascii_digits digits.now) }
     requires few { length digits.now ≤ 20 }
@@ -57,7 +57,7 @@ fn number(digits: &[u8]) -> u128
     number
 }
 
-/// The nanoseconds that the digits behind a point write: the first nine, and 0 for each that lacks.
+/// The nanoseconds that the digits after a decimal point write: the first nine, and 0 for each missing one.
 #[tactic(auto, unfolding(crate::specs::Values::fraction_nanos))]
 fn fraction_nanos(digits: &[u8]) -> u128
     requires { IsTrue (all_ascii_digits digits.now) }
@@ -68,7 +68,7 @@ fn fraction_nanos(digits: &[u8]) -> u128
     number(&digits[..len]) * 10_u128.pow((9 - len) as u32)
 }
 
-/// What stands before the first comma.
+/// What is before the first comma.
 fn before_title(text: &str) -> &str
     ensures { result.now ≡ spec.before_title text.now }
 {
@@ -76,7 +76,7 @@ fn before_title(text: &str) -> &str
     number
 }
 
-/// What stands before and behind the first point.
+/// What is before and after the first decimal point.
 fn decimal_parts(text: &str) -> (&str, &str)
     ensures whole { result.0.now ≡ (spec.decimal_parts text.now).0 }
     ensures fraction { result.1.now ≡ (spec.decimal_parts text.now).1 }
@@ -84,8 +84,8 @@ fn decimal_parts(text: &str) -> (&str, &str)
     cut_at(text, b'.').unwrap_or((text, ""))
 }
 
-/// The nanoseconds of `n`, `n.` or `n.f`, behind which a comma and a title may stand. n has 1 to 20 digits and f at most
-/// 30, of which the first nine count.
+/// The nanoseconds of `n`, `n.` or `n.f`, optionally followed by a comma and a title. n has 1 to 20 digits, and f at
+/// most 30, of which the first nine count.
 #[tactic(auto, unfolding(crate::specs::Values::duration_of))]
 pub(crate) fn read_duration(text: &str) -> Option<u128>
     ensures { result ≡ spec.duration_of text.now }
@@ -103,7 +103,8 @@ fn nanos(whole: &[u8], fraction: &[u8]) -> Option<u128>
     Some(number(whole) * 1_000_000_000 + fraction_nanos(fraction))
 }
 
-/// The range that `n[@o]` tells, where it ends below 2^63. Without an offset it begins where it is said, or nowhere.
+/// The byte range of `n[@o]`, where it ends below 2^63. Without an offset it begins at `otherwise`, or is invalid
+/// where that is `None`.
 #[tactic(auto, unfolding(crate::specs::Values::range_from))]
 pub(crate) fn read_range(text: &str, otherwise: Option<u128>) -> Option<Range>
     ensures { result ≡ spec.fitting (spec.range_from otherwise text.now) }

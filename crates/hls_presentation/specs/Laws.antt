@@ -1,4 +1,4 @@
--- What is refused.
+-- Which playlists are rejected.
 use Rattle.std.specs.Prelude.{◌≡◌, ◌≤◌, List, length, sum_by, All, Ok, Err}
 use Rattle.bridge_io.specs.Firsts.{first_fault}
 use Rattle.hls_master.specs.declared.track.MasterTrack.{MasterTrack}
@@ -7,13 +7,13 @@ use Rattle.presentation.specs.{Counting.{counted, count_of_all}, Presented.Prese
 use Rattle.hls_presentation.specs.Presenting.{faults_in, hls_presented_of}
 use Rattle.layer_faults.specs.declared.hls.HlsFault.{HlsFault}
 
--- Of playlists that are read nothing is refused but for the faults of tracks and of the whole, and their segments always
--- have times.
+-- Playlists that were read are rejected only for the faults of tracks and of the whole; their segments always have valid
+-- times.
 abbrev pub OnlyFaultsAreRefused : Type 0
 OnlyFaultsAreRefused = (tracks : List MasterTrack) (medias : List Media) (fault : HlsFault) → All IsBounded medias
     → hls_presented_of tracks medias ≡ Err fault → first_fault (faults_in tracks medias) ≡ Err fault
 
--- The segments of playlists that are read, at most 500,000 in all, are counted, and no fault is told of them.
+-- For playlists that were read, with at most 500,000 segments in all, `count` succeeds.
 abbrev pub PlaylistsAreCounted : Type 0
 PlaylistsAreCounted = (tracks : List MasterTrack) (medias : List Media) (p : Presented) → All IsBounded medias
     → sum_by (λ media. length media.segments) medias ≤ 500_000

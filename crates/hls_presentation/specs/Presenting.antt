@@ -1,4 +1,4 @@
--- What a master and its media playlists give as a presentation, or the first refusal.
+-- The presentation of a master playlist and its media playlists, or the first error.
 use Rattle.std.specs.Prelude.{ℕ, ◌+◌, ◌/◌, ◌%◌, ◌^◌, ◌==◌, not, Bool, List, [], ◌∷◌, ◌++◌, length, map, decimal, if◌then◌else◌, Option}
 use Rattle.std.specs.{Prelude.{Some, None, Result, Ok, Err}, List.{list_all, list_any}}
 use Rattle.bridge_io.specs.Answer.{and_then}
@@ -17,14 +17,14 @@ use Rattle.layer_faults.specs.declared.hls.HlsFault.TheVariants.{NoMap, Limit, M
 use Rattle.hls_presentation.specs.{Tracks.{Source, sources, kept, left_out, track_faults}, Sections.{groups_in, row_length, rows_of}}
 use Rattle.hls_presentation.specs.Sections.{whole_faults}
 
--- want of memory tells nothing of playlists
+-- out of memory says nothing about playlists
 abbrev pub refusal : HlsFault → Option HlsFault
 refusal Memory = None
 refusal fault = Some fault
 
 -- ---- times
 
--- nanoseconds of a tick: a microsecond where every duration is a whole number of them, otherwise a nanosecond
+-- the nanoseconds of a tick: a microsecond where every duration is a whole number of them, otherwise a nanosecond
 abbrev pub is_micros : MediaSegment → Bool
 is_micros s = s.duration % 1000 == 0
 
@@ -49,7 +49,7 @@ abbrev pub extents_from : (nanos start : ℕ) → List MediaSegment → List Ext
 extents_from nanos start [] = []
 extents_from nanos start (s ∷ rest) = extent_at nanos start (start + s.duration) ∷ extents_from nanos (start + s.duration) rest
 
--- ---- what a track has in a section
+-- ---- the content of a track in a section
 
 abbrev pub part_of : MediaSegment → Part
 part_of s = record { address = s.address; range = s.range }
@@ -66,7 +66,7 @@ abbrev pub initialization_of : List MediaSegment → Result Part HlsFault
 initialization_of [] = Err NoMap
 initialization_of (s ∷ rest) = initialization_in s.map
 
--- times that are no timeline are beyond a limit
+-- times that aren't a valid timeline are beyond a limit
 abbrev pub fault_of_times : TimeFault → HlsFault
 fault_of_times NoRoom = Memory
 fault_of_times fault = Limit
@@ -104,12 +104,12 @@ abbrev pub content_of : ℕ → List MediaSegment → Result Content HlsFault
 content_of nanos group = and_then (initialization_of group) (λ initialization. and_then (runs_of nanos group)
     (λ runs. Ok (content_with initialization runs)))
 
--- what each of some things gives, in their order, or the first refusal
+-- what each member of a list gives, in order, or the first error
 abbrev pub gathered : {X Y : Type 0} → (X → Result Y HlsFault) → List X → Result (List Y) HlsFault
 gathered give [] = Ok []
 gathered give (x ∷ xs) = and_then (give x) (λ y. and_then (gathered give xs) (λ ys. Ok (y ∷ ys)))
 
--- the same behind what was there
+-- the same, appended to a list
 abbrev pub behind : {Y : Type 0} → List Y → Result (List Y) HlsFault → Result (List Y) HlsFault
 behind before gathered = and_then gathered (λ ys. Ok (before ++ ys))
 
@@ -123,7 +123,7 @@ contents_of nanos rows = gathered (content_of nanos) (flattened rows)
 
 -- ---- tracks and sections
 
--- what a master tells of a track
+-- a master playlist's track as that of a presentation
 abbrev pub track_from : MasterTrack → Track
 track_from track = record {
   kind = track.kind;
@@ -138,7 +138,7 @@ track_from track = record {
 abbrev pub track_of : Source → Track
 track_of s = track_from s.track
 
--- each section begins where the one before it ends; its id is its place
+-- each section begins where the one before it ends; its id is its index
 abbrev pub section_at : (place start length : ℕ) → Section
 section_at place start length = record { id = decimal place; start = start; length = Some length }
 
@@ -158,7 +158,7 @@ unfoldable pub presented_from : List Source → (left_out : ℕ) → List (List 
 presented_from tracks others rows = and_then (contents_of (nanos_by_tick tracks) rows)
     (λ contents. Ok (of_parts (parts_with tracks others rows contents)))
 
--- the first of some faults, otherwise what comes then
+-- the first of some faults, otherwise a result
 abbrev pub unless_any : {X : Type 0} → List HlsFault → Result X HlsFault → Result X HlsFault
 unless_any [] next = next
 unless_any (fault ∷ faults) next = Err fault
@@ -167,11 +167,11 @@ unfoldable pub presented_of_kept : List Source → (left_out : ℕ) → Result P
 presented_of_kept tracks others = let groups = map groups_in tracks in
     unless_any (whole_faults groups) (presented_from tracks others (rows_of groups))
 
--- The presentation of a master's tracks with one media playlist each, or the first refusal.
+-- The presentation of a master playlist's tracks with one media playlist each, or the first error.
 unfoldable pub hls_presented_of : List MasterTrack → List Media → Result Presented HlsFault
 hls_presented_of tracks medias = let all = sources tracks medias in
     unless_any (track_faults all) (presented_of_kept (kept all) (left_out all))
 
--- all that is refused, in order
+-- all errors, in order
 abbrev pub faults_in : List MasterTrack → List Media → List HlsFault
 faults_in tracks medias = let all = sources tracks medias in track_faults all ++ whole_faults (map groups_in (kept all))

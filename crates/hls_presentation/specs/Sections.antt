@@ -10,7 +10,7 @@ use Rattle.hls_presentation.specs.Tracks.{Source, fault_if}
 abbrev pub is_of : ℕ → MediaSegment → Bool
 is_of section s = section == s.section
 
--- a segment in front of the groups of those behind it
+-- a segment added before the groups of those after it
 abbrev pub put_before : MediaSegment → List (List MediaSegment) → List (List MediaSegment)
 put_before s [] = (s ∷ []) ∷ []
 put_before s ([] ∷ groups) = (s ∷ []) ∷ groups
@@ -42,7 +42,7 @@ abbrev pub all_alike : List (List (List MediaSegment)) → Bool
 all_alike [] = true
 all_alike (first ∷ rest) = list_all (are_alike first) rest
 
--- how long the segments of a group last, in nanoseconds
+-- the total duration of a group's segments, in nanoseconds
 abbrev pub length_of : List MediaSegment → ℕ
 length_of group = sum_by (λ s. s.duration) group
 
@@ -51,14 +51,14 @@ abbrev pub section_count : List (List (List MediaSegment)) → ℕ
 section_count [] = 0
 section_count (first ∷ rest) = length first
 
--- what each track has in the section at a place
+-- the segments of a track in the section at an index
 abbrev pub group_at : ℕ → List (List MediaSegment) → List MediaSegment
 group_at place groups = unwrap_or (slice_get groups place) []
 
 abbrev pub row_at : List (List (List MediaSegment)) → ℕ → List (List MediaSegment)
 row_at tracks place = map (group_at place) tracks
 
--- so many sections from a place on, and in each one what each track has
+-- `count` sections from an index on, each with the segments of each track
 abbrev pub rows_from : List (List (List MediaSegment)) → (place count : ℕ) → List (List (List MediaSegment))
 rows_from tracks place count = map (row_at tracks) (range_with_len place count)
 
@@ -75,14 +75,14 @@ greatest (n ∷ ns) = max n (greatest ns)
 abbrev pub row_length : List (List MediaSegment) → ℕ
 row_length row = greatest (map length_of row)
 
--- a track lasts 2^63 nanoseconds or more in the section
+-- some track lasts 2^63 nanoseconds or more in the section
 abbrev pub is_too_long : List (List MediaSegment) → Bool
 is_too_long row = nat_le (2 ^ 63) (row_length row)
 
 abbrev pub is_over_limit : List (List (List MediaSegment)) → Bool
 is_over_limit rows = list_any is_too_long rows || (nat_le (10 ^ 19) (sum_by row_length rows) || nat_lt 1000 (length rows))
 
--- all that is refused of the kept tracks together, in order
+-- all errors of the kept tracks together, in order
 abbrev pub whole_faults : List (List (List MediaSegment)) → List HlsFault
 whole_faults tracks = fault_if (not (all_alike tracks)) SectionsDiffer
     ++ (fault_if (is_over_limit (rows_of tracks)) Limit ++ fault_if (section_count tracks == 0) NoTracks)

@@ -1,4 +1,4 @@
--- What the code keeps of tracks, as the definitions have it.
+-- The code's tracks as those of the definitions.
 use Rattle.hls_presentation.specs.{declared.kept.Source.Source as Kept, Tracks.Source}
 
 abbrev pub source_of : Kept → Source

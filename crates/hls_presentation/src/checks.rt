@@ -1,4 +1,4 @@
-// What is refused of one track.
+// Checks of one track.
 ghost use Rattle.std.specs.Prelude.{◌≡◌, map};
 ghost use Rattle.std.specs.Option.{option_eq};
 ghost use Rattle.bridge_io.specs.Firsts.{first_fault};
@@ -10,7 +10,7 @@ use crate::kept::{Source, is_left_out, lacks_maps};
 use hls_media::{Media, MediaSegment};
 use url_parts::Part;
 
-/// The first refusal of one track, in the order of the tracks.
+/// The first error of a single track, in the order of the tracks.
 pub(crate) fn check_tracks(sources: &[Source<'_>]) -> Result<(), HlsFault>
     ensures { result ≡ first_fault (spec.track_faults (map source_of sources.now)) }
 {
@@ -29,8 +29,8 @@ fn check_track(source: &Source<'_>) -> Result<(), HlsFault>
     check_so_far(source)
 }
 
-/// The first refusal of a track whose playlist may go on: NoMap, MapChanged or ZeroDuration, in this order. Nothing is
-/// refused of a track that is left out (RFC 8216 4.3.2.1 and 4.3.2.5).
+/// The first error of a track whose playlist may be live: `NoMap`, `MapChanged` or `ZeroDuration`, in this order. A
+/// dropped track has no errors (RFC 8216 4.3.2.1 and 4.3.2.5).
 pub fn check_so_far(source: &Source<'_>) -> Result<(), HlsFault>
     ensures { result ≡ first_fault (spec.faults_so_far (source_of source.now)) }
 {
@@ -40,7 +40,7 @@ pub fn check_so_far(source: &Source<'_>) -> Result<(), HlsFault>
     check_segments(source.media)
 }
 
-/// The same of a track that isn't left out, also where a segment of a text track has no map.
+/// The same for a track that isn't dropped, also where a segment of a text track has no map.
 pub fn check_segments(media: &Media) -> Result<(), HlsFault>
     ensures { result ≡ first_fault (spec.segment_faults media.now) }
 {
@@ -68,7 +68,7 @@ fn lasts_no_time(segment: &MediaSegment) -> bool
     segment.duration.0 == 0
 }
 
-/// Whether two segments of one section, one after another, have different maps.
+/// Whether two consecutive segments of one section have different maps.
 fn map_changes(segments: &[MediaSegment]) -> bool
     ensures { result ≡ spec.map_changes segments.now }
 {

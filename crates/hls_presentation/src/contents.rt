@@ -1,4 +1,4 @@
-// What the tracks have in the sections.
+// The contents of the tracks in the sections.
 ghost use Rattle.std.specs.Prelude.{◌≡◌, ◌<◌, ◌/◌, ◌^◌, false, map, IfOk};
 ghost use Rattle.std.specs.List.{list_all};
 ghost use Rattle.bridge_io.specs.Answer.{Gives};
@@ -20,7 +20,7 @@ use std::alloc::Global;
 use timeline::{Names, PartList, Runs, Scale, Span, SpanList, TimeFault};
 use url_parts::Part;
 
-/// How times are counted.
+/// The unit of times.
 #[derive(Clone, Copy)]
 pub(crate) struct Ticks {
     /// The nanoseconds of a tick.
@@ -70,7 +70,7 @@ impl Ticks {
         }
     }
 
-    /// What the tracks have in the sections: by section, then by track.
+    /// The contents of the tracks in the sections: by section, then by track.
     pub(crate) fn contents(
         self,
         alloc: Global,
@@ -86,7 +86,7 @@ impl Ticks {
         Ok(contents)
     }
 
-    /// Adds what the tracks have in the section at a place.
+    /// Adds the contents of the tracks in the section at an index.
     fn add_row(
         self,
         alloc: Global,
@@ -151,7 +151,7 @@ impl Ticks {
     }
 }
 
-/// Times that are no timeline are beyond a limit.
+/// Times that aren't a valid timeline are beyond a limit.
 fn fault_of_times(fault: TimeFault) -> HlsFault
     ensures { result ≡ spec.fault_of_times fault }
 {

@@ -50,7 +50,7 @@ impl<'a> Groups<'a> {
         self.groups.len()
     }
 
-    /// What the track has in the section at a place.
+    /// The segments of the track in the section at an index.
     pub(crate) fn at(&self, place: usize) -> Segments<'a>
         ensures { result.now ≡ spec.group_at place self.now }
     {
@@ -90,7 +90,7 @@ pub(crate) fn groups_of_all<'a>(
     Ok(groups)
 }
 
-/// How many segments in front are of this section.
+/// How many leading segments are in this section.
 fn count_of(section: u64, segments: &[MediaSegment]) -> usize
     ensures { result ≡ prefix_len (spec.is_of section) segments.now }
 {
@@ -114,7 +114,7 @@ fn starts_alike(group: &[MediaSegment], other: &[MediaSegment]) -> bool
     }
 }
 
-/// The first refusal of all tracks together.
+/// The first error of all tracks together.
 pub(crate) fn check_groups(tracks: &[Groups<'_>]) -> Result<(), HlsFault>
     ensures { result ≡ first_fault (spec.whole_faults tracks.now) }
 {
@@ -170,7 +170,7 @@ fn is_over_limit(tracks: &[Groups<'_>]) -> bool
     10_000_000_000_000_000_000 <= total || 1_000 < count
 }
 
-/// How long the section at a place lasts, in nanoseconds: as long as its longest track.
+/// The duration of the section at an index, in nanoseconds: that of its longest track.
 pub(crate) fn row_length(tracks: &[Groups<'_>], place: usize) -> u128
     ensures { result ≡ spec.row_length (spec.row_at tracks.now place) }
 {
@@ -181,7 +181,7 @@ pub(crate) fn row_length(tracks: &[Groups<'_>], place: usize) -> u128
     longest
 }
 
-/// How long segments last, in nanoseconds.
+/// The total duration of segments, in nanoseconds.
 fn length_of(group: Segments<'_>) -> u128
     ensures { result ≡ spec.length_of group.now }
 {

@@ -1,4 +1,4 @@
-// The tracks of a master with their media playlists, and which of them are kept.
+// The tracks of a master playlist with their media playlists, and which of them are kept.
 ghost use Rattle.std.specs.Prelude.{◌≡◌, map, IfOk};
 ghost use Rattle.std.specs.List.{prefix_len};
 ghost use Rattle.hls_presentation.specs.Tracks as spec;
@@ -9,16 +9,16 @@ use hls_master::MasterTrack;
 use hls_media::{Media, MediaSegment};
 use std::alloc::Global;
 
-/// A track of a master with its media playlist.
+/// A track of a master playlist with its media playlist.
 #[derive(Clone, Copy)]
 pub struct Source<'a> {
     /// The master's track.
     pub track: &'a MasterTrack,
-    /// Its playlist.
+    /// Its media playlist.
     pub media: &'a Media,
 }
 
-/// One media playlist for each track, in order. A track or a playlist without the other gives none.
+/// The tracks paired with the media playlists, in order. A track or a playlist without the other is ignored.
 pub fn sources_of<'a>(
     alloc: Global,
     mut tracks: &'a [MasterTrack],
@@ -37,7 +37,7 @@ pub fn sources_of<'a>(
     Ok(sources)
 }
 
-/// The tracks that are kept, in order.
+/// The kept tracks, in order.
 pub fn kept_of<'a>(alloc: Global, sources: &[Source<'a>]) -> Result<Vec<Source<'a>>, NoMemory>
     ensures { IfOk result (λ kept. map source_of kept.items ≡ spec.kept (map source_of sources.now)) }
 {
@@ -50,7 +50,7 @@ pub fn kept_of<'a>(alloc: Global, sources: &[Source<'a>]) -> Result<Vec<Source<'
     Ok(kept)
 }
 
-/// How many tracks are left out.
+/// How many tracks are dropped.
 pub fn left_out_of(sources: &[Source<'_>]) -> u64
     ensures { result ≡ spec.left_out (map source_of sources.now) }
 {
@@ -63,7 +63,7 @@ pub fn left_out_of(sources: &[Source<'_>]) -> u64
     count
 }
 
-/// Whether a track is left out: a text track with a segment without map (RFC 8216 4.3.2.5).
+/// Whether a track is dropped: a text track with a segment without map (RFC 8216 4.3.2.5).
 pub fn is_left_out(source: &Source<'_>) -> bool
     ensures { result ≡ spec.is_left_out (source_of source.now) }
 {

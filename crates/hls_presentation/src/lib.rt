@@ -1,4 +1,4 @@
-//! The presentation of a finished HLS presentation: a master's tracks with their media playlists (RFC 8216, 4.3).
+//! The presentation of HLS VOD: a master playlist's tracks with their media playlists (RFC 8216, 4.3).
 #![tactic(auto)]
 
 mod checks;

@@ -19,16 +19,17 @@ use hls_media::Media;
 use presentation::{Parts, Presentation};
 use std::alloc::Global;
 
-/// Media playlists, one for each track of a master, in the order of its tracks.
+/// Media playlists, one for each track of a master playlist, in the order of its tracks.
 pub type MediaFiles = Sequence<Media>;
 
-/// The presentation of a master with its media playlists, one for each of its tracks, in their order. A track is one of the
-/// master's, a section the segments of one discontinuity sequence number (RFC 8216 4.3.3.3). A text track with a segment
-/// without EXT-X-MAP is left out.
+/// The presentation of a master playlist with its media playlists, one for each of its tracks, in their order. A track is
+/// one of the master's, and a section the segments of one discontinuity sequence number (RFC 8216 4.3.3.3). A text track
+/// with a segment without EXT-X-MAP is dropped.
 ///
-/// The refusals come in the order of [`HlsFault`].
+/// The errors come in the order of [`HlsFault`].
 ///
-/// Requires that no video track has a language, which is so of each master that is read (`what_is_read_is_silent`).
+/// Requires that no video track has a language, which holds for each master playlist that was read
+/// (`what_is_read_is_silent`).
 pub fn from_hls(
     alloc: Global,
     master: &Master,
@@ -55,7 +56,7 @@ fn present_all(
     present(alloc, &kept, left_out_of(&sources))
 }
 
-/// The presentation of the tracks that are kept, so many others being left out.
+/// The presentation of the kept tracks; `left_out` others were dropped.
 #[tactic(auto, unfolding(crate::specs::Presenting::presented_of_kept))]
 fn present(alloc: Global, kept: &[Source<'_>], left_out: u64) -> Result<Presentation, HlsFault>
     ensures { Gives (λ presentation. presentation) spec.refusal result (spec.presented_of_kept (map source_of kept.now) left_out) }

@@ -23,7 +23,7 @@ pub fn tracks_of(alloc: Global, sources: &[Source<'_>]) -> Result<TrackList, NoM
     Ok(tracks)
 }
 
-/// A master's track as a presentation has it.
+/// A master playlist's track as that of a presentation.
 pub fn track_of(alloc: Global, track: &MasterTrack) -> Result<Track, NoMemory>
     ensures { IfOk result (λ made. made ≡ spec.track_from track.now) }
 {
@@ -49,7 +49,7 @@ fn copy_of(alloc: Global, text: &Option<Text>) -> Result<Option<Text>, NoMemory>
     }
 }
 
-/// The sections, each of which begins where the one before it ends. Its id is its place.
+/// The sections, each of which begins where the one before it ends. A section's id is its index.
 #[tactic(auto, using(crate::proofs::Rows::row_next))]
 pub(crate) fn sections_of(alloc: Global, tracks: &[Groups<'_>]) -> Result<SectionList, NoMemory>
     requires { is_over_limit (rows_of tracks.now) ≡ false }

@@ -11,7 +11,7 @@ texts_of texts = map (λ text. text.now) texts
 abbrev pub texts_in : Bor (List (Bor (List ℕ))) → List (List ℕ)
 texts_in texts = texts_of texts.now
 
--- what an attribute says
+-- the value of an attribute
 abbrev pub told : Attribute → WrittenAttribute
 told (attribute.MediaType group) = media_type group
 told (attribute.GroupId group) = group_id group
@@ -26,6 +26,6 @@ told (attribute.Resolution size) = resolution size
 told (attribute.FrameRate thousandths) = frame_rate thousandths
 told (attribute.Renditions group) = renditions group
 
--- what those say that are there
+-- the values of those that are present
 abbrev pub all_told : List (Option Attribute) → List WrittenAttribute
 all_told attributes = present (map (option_map told) attributes)

@@ -1,4 +1,4 @@
--- The attributes of the lines of a master, and their texts (RFC 8216, 4.2).
+-- The attributes of the lines of a master playlist, and their texts (RFC 8216, 4.2).
 use Rattle.std.specs.{Prelude.{ℕ, ◌/◌, Bool, List, [], ◌∷◌, ◌++◌, codes, decimal, Option, if◌then◌else◌}, List.flat_map}
 use Rattle.std.specs.Option.{option_map_or}
 use Rattle.iso_time.specs.Digits.{padded_digits}
@@ -21,13 +21,13 @@ pub data WrittenAttribute : Type 0 where
   autoselect : WrittenAttribute
   -- URI of a track's playlist
   playlist : (track : ℕ) → WrittenAttribute
-  -- BANDWIDTH, in bits a second
+  -- BANDWIDTH, in bits per second
   bandwidth : (bits : ℕ) → WrittenAttribute
   -- CODECS
   codecs : (list : List (List ℕ)) → WrittenAttribute
   -- RESOLUTION, in pixels
   resolution : (size : Size) → WrittenAttribute
-  -- FRAME-RATE, in thousandths of a frame a second
+  -- FRAME-RATE, in thousandths of a frame per second
   frame_rate : (thousandths : ℕ) → WrittenAttribute
   -- AUDIO or SUBTITLES of a variant: its group of renditions
   renditions : (group : RenditionGroup) → WrittenAttribute
@@ -60,7 +60,7 @@ yes_or_no is = if is then codes "YES" else codes "NO"
 abbrev pub playlist_name : ℕ → List ℕ
 playlist_name track = codes "t" ++ decimal track ++ codes ".m3u8"
 
--- codes joined by `,`
+-- codecs joined by `,`
 abbrev pub codes_bytes : List (List ℕ) → List ℕ
 codes_bytes [] = []
 codes_bytes (code ∷ others) = code ++ flat_map (λ other. 44 ∷ other) others

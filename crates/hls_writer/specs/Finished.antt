@@ -1,4 +1,4 @@
--- The playlist of a track of a finished presentation.
+-- The media playlist of a track of a VOD presentation.
 use Rattle.std.specs.{Prelude.{ℕ, ◌+◌, ◌*◌, ◌/◌, ◌%◌, ◌^◌, nat_le, max, if◌then◌else◌, List, [], map, None, Result, Ok, Err}, List.flat_map}
 use Rattle.std.specs.Option.{option_map_or}
 use Rattle.url_parts.specs.declared.address.Part.{Part}
@@ -7,7 +7,7 @@ use Rattle.presentation.specs.{declared.parts.Content.Content, Presented.{Presen
 use Rattle.presentation.specs.{Printing.{PrintedTiming, printed_timings}, Verifying.longest_of}
 use Rattle.hls_writer.specs.Playlists.{Item, finished_text}
 
--- the part of a segment that has an address
+-- the part of a segment that has a URL
 abbrev pub part_or_none : Result Part ListFault → Part
 part_or_none (Ok part) = part
 part_or_none (Err fault) = record { address = []; range = None }
@@ -39,7 +39,7 @@ section_items p unit track section = option_map_or (content_items unit section (
 abbrev pub track_items : Presented → (unit track : ℕ) → List Item
 track_items p unit track = flat_map (section_items p unit track) (sections_of p)
 
--- a duration in seconds, to the nearest one, halves up, and at least 1 (RFC 8216, 4.3.3.1)
+-- a duration, rounded to the nearest second, halves up, and at least 1 (RFC 8216, 4.3.3.1)
 abbrev pub rounded : (unit units : ℕ) → ℕ
 rounded unit units = if nat_le unit (2 * (units % unit)) then units / unit + 1 else units / unit
 

@@ -1,4 +1,4 @@
--- Playlists as they are handed in.
+-- Playlists as they are passed in.
 use Rattle.std.specs.Prelude.{ℕ, List, map, Some}
 use Rattle.hls_writer.specs.{Playlists.{Item, Head, followed_text}, declared.items.MediaHead.MediaHead, declared.items.MediaItem.MediaItem}
 

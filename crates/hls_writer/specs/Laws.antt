@@ -2,7 +2,7 @@
 use Rattle.std.specs.{Prelude.{◌≡◌, ◌==◌, false, List, [], ◌∷◌, ◌++◌, map, All}, List.slice_split}
 use Rattle.hls_writer.specs.Lines.{WrittenLine, line_bytes, lines_text}
 
--- no LF stands in a line but at its end
+-- a line has no inner LF
 abbrev pub IsOneLine : WrittenLine → Type 0
 IsOneLine line = All (λ b. (b == 10) ≡ false) (line_bytes line)
 
@@ -10,7 +10,7 @@ abbrev pub AreLines : List WrittenLine → Type 0
 AreLines [] = Unit {0}
 AreLines (line ∷ lines) = IsOneLine line × AreLines lines
 
--- Cut at each LF, the text of some lines gives them again, and nothing behind the last one.
+-- Split at each LF, the text of some lines gives the lines, and nothing after the last one.
 abbrev pub LinesAreReadAgain : Type 0
 LinesAreReadAgain = (lines : List WrittenLine) → AreLines lines → slice_split (λ b. b == 10) (lines_text lines)
     ≡ map line_bytes lines ++ [] ∷ []

@@ -1,4 +1,4 @@
--- The lines of a written playlist, and their texts (RFC 8216, 4.3). Every line ends by one LF.
+-- The lines of a written playlist, and their texts (RFC 8216, 4.3). Every line ends with one LF.
 use Rattle.std.specs.{Prelude.{ℕ, ◌/◌, ◌^◌, List, [], ◌∷◌, ◌++◌, codes, decimal, ℤ}, List.flat_map}
 use Rattle.iso_time.specs.{Civil.instant_text, Digits.{padded_digits, optional_text}}
 use Rattle.url_parts.specs.{declared.address.Part.Part, declared.range.Range.Range}
@@ -15,11 +15,11 @@ pub data WrittenLine : Type 0 where
   media_sequence : (number : ℕ) → WrittenLine
   -- EXT-X-DISCONTINUITY-SEQUENCE
   discontinuity_sequence : (number : ℕ) → WrittenLine
-  -- EXT-X-PLAYLIST-TYPE of a presentation that never changes
+  -- EXT-X-PLAYLIST-TYPE:VOD
   on_demand : WrittenLine
   -- EXT-X-DISCONTINUITY
   discontinuity : WrittenLine
-  -- EXT-X-MAP: the part of a file that initializes the segments from here on
+  -- EXT-X-MAP: the init segment of the segments from here on
   initialization : (part : Part) → WrittenLine
   -- EXT-X-PROGRAM-DATE-TIME: nanoseconds since 1970-01-01T00:00:00Z
   program_date_time : (instant : ℤ) → WrittenLine
@@ -27,13 +27,13 @@ pub data WrittenLine : Type 0 where
   duration : (digits units : ℕ) → WrittenLine
   -- EXT-X-BYTERANGE
   byte_range : (range : Range) → WrittenLine
-  -- the address of a segment, or a track's file
+  -- the URL of a segment, or a track's file
   uri : (address : List ℕ) → WrittenLine
   -- EXT-X-ENDLIST
   end_list : WrittenLine
-  -- EXT-X-MEDIA of a master
+  -- EXT-X-MEDIA of a master playlist
   rendition : (first : WrittenAttribute) (others : List WrittenAttribute) → WrittenLine
-  -- EXT-X-STREAM-INF of a master
+  -- EXT-X-STREAM-INF of a master playlist
   variant : (first : WrittenAttribute) (others : List WrittenAttribute) → WrittenLine
 
 -- `<count>@<first>`

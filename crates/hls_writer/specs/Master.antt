@@ -13,6 +13,6 @@ lines_with tracks groups = (header ∷ version 6 ∷ [])
 abbrev pub master_lines : List Track → List WrittenLine
 master_lines tracks = lines_with tracks (groups_of tracks)
 
--- the text of a presentation's master
+-- the text of a presentation's master playlist
 unfoldable pub master_text : Presented → List ℕ
 master_text p = lines_text (master_lines p.tracks)

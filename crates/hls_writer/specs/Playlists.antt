@@ -1,4 +1,4 @@
--- The lines of media playlists (RFC 8216, 4.3.2 and 4.3.3), finished and followed.
+-- The lines of media playlists (RFC 8216, 4.3.2 and 4.3.3), VOD and live.
 use Rattle.std.specs.Prelude.{ℕ, ◌-◌, nat_lt, Bool, true, List, [], ◌∷◌, ◌++◌, replicate, Option, Some, None, option_map, option_to_list}
 use Rattle.std.specs.{Prelude.{if◌then◌else◌, ℤ}, List.flat_map}
 use Rattle.url_parts.specs.declared.address.Part.{Part}
@@ -7,9 +7,9 @@ use Rattle.hls_writer.specs.Lines.{discontinuity, initialization, program_date_t
 
 -- a segment as a playlist lists it
 pub record Item : Type 0 where
-  -- where it lies
+  -- its URL and byte range
   pub part : Part
-  -- what initializes it
+  -- its init segment
   pub map : Part
   -- its printed duration, in units of which 10 to the playlist's number of digits make a second
   pub duration : ℕ
@@ -17,11 +17,11 @@ pub record Item : Type 0 where
   -- when it begins, in nanoseconds since 1970-01-01T00:00:00Z
   pub date : Option ℤ
 
--- the lines that are there of some that may be missing
+-- those lines that are present
 abbrev pub present : List (Option WrittenLine) → List WrittenLine
 present lines = flat_map option_to_list lines
 
--- by how much the section number rises behind a segment of another section; nothing stands before the first segment
+-- by how much the section number rises after a segment of another section; 0 for the first segment
 abbrev pub rise : (former : Option ℕ) → ℕ → ℕ
 rise None section = 0
 rise (Some former) section = section - former
@@ -31,7 +31,7 @@ abbrev pub begins_section : (former : Option ℕ) → ℕ → Bool
 begins_section None section = true
 begins_section (Some former) section = nat_lt former section
 
--- the lines of a segment behind those of the discontinuities
+-- the lines of a segment after those of the discontinuities
 abbrev pub own_lines : (digits : ℕ) (former : Option ℕ) → Item → List WrittenLine
 own_lines digits former item = present (
     (if begins_section former item.section then Some (initialization item.map) else None)
@@ -50,12 +50,12 @@ front_lines former item = present (
     ∷ []
     )
 
--- and the others, of the segment alone
+-- and the others, of the segment itself
 abbrev pub last_lines : (digits : ℕ) → Item → List WrittenLine
 last_lines digits item = duration digits item.duration ∷ option_to_list (option_map byte_range item.part.range) ++ uri item.part.address
     ∷ []
 
--- the lines of a segment behind one of a section
+-- the lines of a segment after one of a section
 abbrev pub item_lines : (digits : ℕ) (former : Option ℕ) → Item → List WrittenLine
 item_lines digits former item = replicate (rise former item.section) discontinuity ++ own_lines digits former item
 
@@ -64,16 +64,16 @@ abbrev pub items_lines : (digits : ℕ) (former : Option ℕ) → List Item → 
 items_lines digits former [] = []
 items_lines digits former (item ∷ items) = item_lines digits former item ++ items_lines digits (Some item.section) items
 
--- the section of the last of some segments behind one of a section
+-- the section of the last of some segments after one of a section
 abbrev pub last_section : (former : Option ℕ) → List Item → Option ℕ
 last_section former [] = former
 last_section former (item ∷ items) = last_section (Some item.section) items
 
--- the lines before the segments, of which the last one is of a finished or a followed playlist
+-- the lines before the segments; the last one depends on whether the playlist is VOD or live
 abbrev pub head_lines : (target sequence : ℕ) (kind : WrittenLine) → List WrittenLine
 head_lines target sequence kind = header ∷ version 6 ∷ target_duration target ∷ media_sequence sequence ∷ kind ∷ []
 
--- the line behind the segments, where no segment follows
+-- the line after the segments, where the playlist has EXT-X-ENDLIST
 abbrev pub end_lines : Bool → List WrittenLine
 end_lines ended = if ended then end_list ∷ [] else []
 
@@ -82,7 +82,7 @@ abbrev pub media_lines : (target sequence : ℕ) (kind : WrittenLine) (digits : 
 media_lines target sequence kind digits items ended =
     head_lines target sequence kind ++ items_lines digits None items ++ end_lines ended
 
--- what stands above the segments of a followed playlist, and whether no segment follows
+-- the header values of a live playlist, and whether it has EXT-X-ENDLIST
 pub record Head : Type 0 where
   pub target : ℕ
   pub sequence : ℕ
@@ -90,11 +90,11 @@ pub record Head : Type 0 where
   pub ended : Bool
   pub digits : ℕ
 
--- the text of a finished media playlist, whose segments have no dates
+-- the text of a VOD media playlist, whose segments have no dates
 unfoldable pub finished_text : (target digits : ℕ) → List Item → List ℕ
 finished_text target digits items = lines_text (media_lines target 0 on_demand digits items true)
 
--- the text of a followed media playlist
+-- the text of a live media playlist
 unfoldable pub followed_text : Head → List Item → List ℕ
 followed_text head items =
     lines_text (media_lines head.target head.sequence (discontinuity_sequence head.first_section) head.digits items head.ended)

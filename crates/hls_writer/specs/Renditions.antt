@@ -1,4 +1,4 @@
--- The renditions of a master (RFC 8216, 4.3.4.1).
+-- The renditions of a master playlist (RFC 8216, 4.3.4.1).
 use Rattle.bridge_io.specs.declared.media.Kind.TheVariants as kind
 use Rattle.std.specs.Prelude.{ℕ, ◌+◌, ◌==◌, ◌&&◌, Bool, false, List, [], ◌∷◌, ◌++◌, map, take, slice_get, position, count_by}
 use Rattle.std.specs.Prelude.{if◌then◌else◌, Option, Some, option_map, option_and_then, option_to_list, unwrap_or}
@@ -10,7 +10,7 @@ use Rattle.hls_writer.specs.{Lines.{WrittenLine, rendition, line_text}, declared
 use Rattle.hls_writer.specs.{declared.attribute.RenditionGroup.TheVariants.{Audio, Subtitles}, declared.keys.Key.Key}
 use Rattle.hls_writer.specs.declared.renditions.Rendition.{Rendition}
 
--- The places of the tracks of a kind: those that were found before, and those from a place on.
+-- The indices of the tracks of a kind: those that were found before, and those from an index on.
 abbrev pub places_from : Kind → List ℕ → ℕ → List Track → List ℕ
 places_from kind found place [] = found
 places_from kind found place (track ∷ later) =
@@ -19,8 +19,8 @@ places_from kind found place (track ∷ later) =
 abbrev pub places_of : Kind → List Track → List ℕ
 places_of kind tracks = places_from kind [] 0 tracks
 
--- What an audio track's group has: its codes, by the first track that has them, and as many tracks with these codes
--- before the track in its set.
+-- The key of an audio track's group: its codecs, by the first track that has them, and the number of tracks with these
+-- codecs before the track in its set.
 abbrev pub key_at : List Track → ℕ → Track → Key
 key_at tracks place track = record {
   codes = unwrap_or (position (has_codes_of track) tracks) place;
@@ -33,7 +33,7 @@ is_same_key one other = one.codes == other.codes && one.rank == other.rank
 abbrev pub with_key : List Key → Key → List Key
 with_key found key = if list_any (is_same_key key) found then found else found ++ key ∷ []
 
--- the keys of the audio tracks in the order in which they are first seen: those of the groups in order
+-- the keys of the audio tracks in the order in which they first occur: those of the groups in order
 abbrev pub keys_from : List Track → List Key → ℕ → List Track → List Key
 keys_from tracks found place [] = found
 keys_from tracks found place (track ∷ later) =
@@ -43,7 +43,7 @@ keys_from tracks found place (track ∷ later) =
 abbrev pub keys_of : List Track → List Key
 keys_of tracks = keys_from tracks [] 0 tracks
 
--- the group of an audio track's own codes and rank
+-- the group of an audio track's own codecs and rank
 abbrev pub group_with_key : List Key → Key → ℕ
 group_with_key keys key = unwrap_or (position (is_same_key key) keys) 0
 
@@ -57,7 +57,7 @@ members_in groups group = unwrap_or (slice_get groups group) []
 abbrev pub is_place : ℕ → ℕ → Bool
 is_place place member = place == member
 
--- An audio track in its own group, in which its set's place among the audio sets is its place.
+-- An audio track in its own group, in which its index is that of its set among the audio sets.
 abbrev pub own_rendition : List Track → List Key → List (List ℕ) → ℕ → Rendition
 own_rendition tracks keys groups place = let group = own_group tracks keys place in record {
   group = Audio group;
@@ -68,14 +68,14 @@ own_rendition tracks keys groups place = let group = own_group tracks keys place
 abbrev pub own_renditions : List Track → List Key → List (List ℕ) → List Rendition
 own_renditions tracks keys groups = map (own_rendition tracks keys groups) (places_of kind.Audio tracks)
 
--- the members of a group that isn't their own, from a set on
+-- the members of a group for which it isn't their own, from a set on
 abbrev pub filled_from : List Track → List Key → (group : ℕ) → List Rendition → (set : ℕ) → List ℕ → List Rendition
 filled_from tracks keys group found set [] = found
 filled_from tracks keys group found set (place ∷ later) =
     if own_group tracks keys place == group then filled_from tracks keys group found (set + 1) later
     else filled_from tracks keys group (found ++ (record { group = Audio group; number = set; track = place }) ∷ []) (set + 1) later
 
--- and those of the groups from a number on, behind those that were found before
+-- and those of the groups from a number on, after those that were found before
 abbrev pub filled_renditions : List Track → List Key → List Rendition → (group : ℕ) → List (List ℕ) → List Rendition
 filled_renditions tracks keys found group [] = found
 filled_renditions tracks keys found group (members ∷ later) =
@@ -101,7 +101,7 @@ abbrev pub is_first_of : RenditionGroup → ℕ → Bool
 is_first_of (Audio group) number = number == 0
 is_first_of Subtitles number = false
 
--- the tracks of the first audio set are played where nothing else is chosen
+-- the tracks of the first audio set are DEFAULT
 abbrev pub is_default : Rendition → Bool
 is_default r = is_first_of r.group r.number
 

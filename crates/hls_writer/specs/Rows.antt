@@ -6,7 +6,7 @@ use Rattle.hls_writer.specs.Lines.{WrittenLine, header, version, target_duration
 use Rattle.hls_writer.specs.{Lines.{discontinuity, initialization, program_date_time, byte_range, end_list}, Playlists.{Item, present}}
 use Rattle.hls_writer.specs.{declared.line.Tag.Tag, declared.entry.Entry.Entry}
 
--- what a line says
+-- the value of a line
 abbrev pub written : Tag → WrittenLine
 written line.Header = header
 written (line.Version number) = version number
@@ -20,7 +20,7 @@ written (line.ProgramDateTime instant) = program_date_time instant
 written (line.ByteRange range) = byte_range range
 written line.EndList = end_list
 
--- what those say that are there
+-- the values of those that are present
 abbrev pub all_written : List (Option Tag) → List WrittenLine
 all_written lines = present (map (option_map written) lines)
 
@@ -33,7 +33,7 @@ entry_item entry = record {
   date = entry.date;
 }
 
--- a date is one of the years 1000 to 9999
+-- the year of a date is 1000 to 9999
 abbrev pub CanBeWritten : Tag → Type 0
 CanBeWritten (line.ProgramDateTime instant) = IsWritable instant
 CanBeWritten line = ⊤

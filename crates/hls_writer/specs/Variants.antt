@@ -1,4 +1,4 @@
--- The variants of a master (RFC 8216, 4.3.4.2).
+-- The variants of a master playlist (RFC 8216, 4.3.4.2).
 use Rattle.bridge_io.specs.declared.media.Kind.TheVariants as kind
 use Rattle.std.specs.Prelude.{ℕ, Bool, is_some, ◌+◌, ◌*◌, ◌==◌, max, List, [], ◌∷◌, ◌++◌, map, slice_get, if◌then◌else◌, Option, Some, None}
 use Rattle.std.specs.{Prelude.{option_map, option_and_then, option_to_list, unwrap_or}, List.{flat_map, list_any, slice_split}}
@@ -14,21 +14,21 @@ use Rattle.text_lists.specs.Lists.{parts_in}
 abbrev pub sound_variant : ℕ → List ℕ → Variant
 sound_variant group members = record { video = None; group = Some group; track = unwrap_or (slice_get members 0) 0 }
 
--- one for each of the groups from a number on, behind those that were found before
+-- one for each of the groups from a number on, after those that were found before
 abbrev pub sound_variants : List Variant → (group : ℕ) → List (List ℕ) → List Variant
 sound_variants found group [] = found
 sound_variants found group (members ∷ later) = sound_variants (found ++ sound_variant group members ∷ []) (group + 1) later
 
--- a video track with a group, or without sound
+-- a video track with a group, or without audio
 abbrev pub video_variant : ℕ → Option ℕ → Variant
 video_variant place group = record { video = Some place; group = group; track = place }
 
--- the numbers of the groups from a number on, behind those that were found before
+-- the numbers of the groups from a number on, after those that were found before
 abbrev pub numbers_from : List (Option ℕ) → (group : ℕ) → List (List ℕ) → List (Option ℕ)
 numbers_from found group [] = found
 numbers_from found group (members ∷ later) = numbers_from (found ++ Some group ∷ []) (group + 1) later
 
--- each group, or none where there are none
+-- each group, or `None` where there are none
 abbrev pub choices : List (List ℕ) → List (Option ℕ)
 choices [] = None ∷ []
 choices (members ∷ later) = numbers_from [] 0 (members ∷ later)
@@ -78,18 +78,18 @@ abbrev pub with_codes : List (List ℕ) → List (List ℕ) → List (List ℕ)
 with_codes found [] = found
 with_codes found (code ∷ later) = with_codes (with_code found code) later
 
--- the codes of a list
+-- the codecs of a list
 abbrev pub codes_in : List ℕ → List (List ℕ)
 codes_in text = slice_split (λ b. b == 44) text
 
 abbrev pub has_codes : List Track → ℕ → Bool
 has_codes tracks place = is_some (codecs_at tracks place)
 
--- the codes of each track, and none of a track whose codes aren't known
+-- the codecs of each track, and none for a track whose codecs aren't known
 abbrev pub code_lists : List Track → List (List (List ℕ))
 code_lists tracks = map (λ track. parts_in track.codecs) tracks
 
--- the codes of some tracks, each once, behind those that were found before; none where one of the tracks has none
+-- the codecs of some tracks, each once, after those that were found before; `None` where one of the tracks has none
 abbrev pub codes_from : List Track → List (List ℕ) → List ℕ → Option (List (List ℕ))
 codes_from tracks found [] = Some found
 codes_from tracks found (place ∷ later) =
@@ -104,7 +104,7 @@ size_at tracks place = option_and_then (λ track. track.size) (slice_get tracks 
 abbrev pub frame_rate_at : List Track → ℕ → Option Ratio
 frame_rate_at tracks place = option_and_then (λ track. track.frame_rate) (slice_get tracks place)
 
--- in thousandths, to the nearest one, halves up
+-- in thousandths, rounded to the nearest one, halves up
 abbrev pub thousandths_of : Ratio → ℕ
 thousandths_of ratio = rounded ratio.m (1000 * ratio.n)
 
@@ -128,7 +128,7 @@ variant_attributes tracks texts codes v = present (
     ∷ []
     )
 
--- EXT-X-STREAM-INF, and the URI line behind it
+-- EXT-X-STREAM-INF, and the URI line after it
 abbrev pub coded_lines : List Track → (groups : List (List ℕ)) → (texts : List ℕ) → Option (List (List ℕ)) → Variant → List WrittenLine
 coded_lines tracks groups texts codes v =
     variant (bandwidth (bandwidth_of tracks groups texts v)) (variant_attributes tracks texts codes v) ∷ uri (playlist_name v.track) ∷ []

@@ -1,4 +1,4 @@
-// Attributes of the lines of a master.
+// Attributes of the lines of a master playlist.
 ghost use Rattle.std.specs.Prelude.{◌≡◌, ◌++◌, ◌∷◌, [], flat_map, option_map};
 ghost use Rattle.bridge_io.specs.Adding.{Adds};
 ghost use Rattle.hls_writer.specs.AttributeRows.{told, all_told, texts_of};
@@ -48,7 +48,7 @@ impl RenditionGroup {
     }
 }
 
-/// An attribute of a line of a master (RFC 8216, 4.2).
+/// An attribute of a line of a master playlist (RFC 8216, 4.2).
 #[derive(Clone, Copy)]
 pub enum Attribute<'a> {
     /// TYPE of a rendition of this group (4.3.4.1).
@@ -59,7 +59,7 @@ pub enum Attribute<'a> {
     Name {
         /// The language, where it is known.
         language: Option<&'a str>,
-        /// The place among the audio sets or the text tracks.
+        /// The index among the audio sets or the text tracks.
         number: u64,
     },
     /// LANGUAGE (4.3.4.1).
@@ -70,7 +70,7 @@ pub enum Attribute<'a> {
     Autoselect,
     /// URI of a track's playlist (4.3.4.1).
     Playlist(u64),
-    /// BANDWIDTH in bits a second (4.3.4.2).
+    /// BANDWIDTH in bits per second (4.3.4.2).
     Bandwidth(u128),
     /// CODECS (4.3.4.2).
     Codecs(&'a [&'a str]),
@@ -134,7 +134,7 @@ impl Attribute<'_> {
     }
 }
 
-/// Adds an attribute that names a group.
+/// Writes an attribute that names a group.
 fn push_group<F: Store>(
     sheet: &mut Sheet<F>,
     name: &[u8],
@@ -166,7 +166,7 @@ fn yes_or_no(is: bool) -> &'static [u8]
     if is { b"YES" } else { b"NO" }
 }
 
-/// The last three decimal digits of a number, with zeros in front.
+/// The last three decimal digits of a number, with leading zeros.
 #[tactic(auto, unfolding(iso_time::specs::Digits::padded_digits))]
 fn three_decimals(number: u64) -> [u8; 3]
     ensures { result ≡ padded_digits 3 number }
@@ -178,7 +178,7 @@ fn three_decimals(number: u64) -> [u8; 3]
     ]
 }
 
-/// Adds the attribute of a list of codes.
+/// Writes the attribute of a list of codecs.
 #[tactic(auto, unfolding(crate::specs::Attributes::attribute_bytes))]
 fn push_codes<F: Store>(sheet: &mut Sheet<F>, codes: &[&str]) -> Result<(), Fail>
     ensures { Adds F.Store (attribute_bytes (codecs (texts_of codes.now))) sheet.old sheet.new result }
@@ -188,7 +188,7 @@ fn push_codes<F: Store>(sheet: &mut Sheet<F>, codes: &[&str]) -> Result<(), Fail
     sheet.push_pieces(&[Piece::Text(b"\"")])
 }
 
-/// Adds codes joined by `,`.
+/// Writes codecs joined by `,`.
 fn push_list<F: Store>(sheet: &mut Sheet<F>, codes: &[&str]) -> Result<(), Fail>
     ensures { Adds F.Store (spec.codes_bytes (texts_of codes.now)) sheet.old sheet.new result }
 {
@@ -199,7 +199,7 @@ fn push_list<F: Store>(sheet: &mut Sheet<F>, codes: &[&str]) -> Result<(), Fail>
     push_further_codes(sheet, others)
 }
 
-/// Adds a `,` and a code for each of some codes.
+/// Writes a `,` and the codec for each of some codecs.
 fn push_further_codes<F: Store>(sheet: &mut Sheet<F>, codes: &[&str]) -> Result<(), Fail>
     ensures { Adds F.Store (flat_map (λ code. 44 ∷ code) (texts_of codes.now)) sheet.old sheet.new result }
 {
@@ -209,7 +209,7 @@ fn push_further_codes<F: Store>(sheet: &mut Sheet<F>, codes: &[&str]) -> Result<
     Ok(())
 }
 
-/// Adds a tag with its attributes and the line's end: the first one, and those that are there of some that may be missing.
+/// Writes a tag with its attributes and the line end: the first one, and those of the others that are present.
 pub fn push_tag<F: Store>(
     sheet: &mut Sheet<F>,
     tag: &[u8],
@@ -224,7 +224,7 @@ pub fn push_tag<F: Store>(
     sheet.push_pieces(&[Piece::Text(b"\n")])
 }
 
-/// Adds a `,` and an attribute for each one that is there.
+/// Writes a `,` and an attribute for each one that is present.
 fn push_further<F: Store>(
     sheet: &mut Sheet<F>,
     attributes: &[Option<Attribute<'_>>],

@@ -15,11 +15,11 @@ use url_parts::{Part, Range};
 /// A segment as a playlist lists it.
 #[derive(Clone, Copy)]
 pub struct Entry<'a> {
-    /// Where it lies.
+    /// Its URL.
     pub address: &'a str,
-    /// Which bytes of the file it is; all of them where there is none.
+    /// Its byte range in the file; `None` is the whole file.
     pub range: Option<Range>,
-    /// What initializes it.
+    /// Its init segment.
     pub map: &'a Part,
     /// Its printed duration, in units of which 10 to the playlist's number of digits make a second.
     pub duration: u64,
@@ -30,7 +30,7 @@ pub struct Entry<'a> {
 }
 
 impl Entry<'_> {
-    /// Adds the lines of the segment, behind a segment of the section `former` or as the playlist's first one.
+    /// Writes the lines of the segment, after a segment of the section `former` or as the playlist's first one.
     pub fn push_to<F: Store>(
         &self,
         sheet: &mut Sheet<F>,
@@ -45,7 +45,7 @@ impl Entry<'_> {
         self.push_last(sheet, digits)
     }
 
-    /// Adds the lines of what begins with the segment.
+    /// Writes the lines of what begins with the segment.
     fn push_front<F: Store>(&self, sheet: &mut Sheet<F>, former: Option<u64>) -> Result<(), Fail>
         requires { IfSome self.now.date IsWritable }
         ensures { Adds F.Store (lines_text (front_lines former (entry_item self.now))) sheet.old sheet.new result }
@@ -75,7 +75,7 @@ impl Entry<'_> {
         Some(Tag::ProgramDateTime(self.date?))
     }
 
-    /// Adds the lines of the segment alone.
+    /// Writes the lines of the segment itself.
     fn push_last<F: Store>(&self, sheet: &mut Sheet<F>, digits: Digits) -> Result<(), Fail>
         ensures { Adds F.Store (lines_text (last_lines digits (entry_item self.now))) sheet.old sheet.new result }
     {
@@ -108,7 +108,7 @@ fn begins_section(former: Option<u64>, section: u64) -> bool
     former.is_none_or(|former| former < section)
 }
 
-/// Adds a line for each step by which the section number rises.
+/// Writes a line for each step by which the section number rises.
 fn push_discontinuities<F: Store>(sheet: &mut Sheet<F>, count: u64) -> Result<(), Fail>
     ensures { Adds F.Store (lines_text (replicate count discontinuity)) sheet.old sheet.new result }
 {

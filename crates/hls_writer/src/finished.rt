@@ -1,4 +1,4 @@
-// The playlists of the tracks of a finished presentation.
+// The media playlists of a VOD presentation.
 ghost use Rattle.std.specs.Prelude.{◌≡◌, ◌⊎◌, ◌^◌, ◌<◌, ◌≤◌, ◌/◌, length, All, IfOk, IfSome, None, Ok, OnOk, OnErr, MatchResult};
 ghost use Rattle.bridge_io.specs.Fault.{HasCause};
 ghost use Rattle.bridge_io.specs.Outside.{put, Changes};
@@ -26,14 +26,14 @@ use std::alloc::Global;
 use timeline::{AddressWriter, ListFault, Span};
 use url_parts::{Part, Range};
 
-/// Writes the playlist of a track of a finished presentation: each listed segment with its address and its printed duration,
-/// an EXT-X-DISCONTINUITY for each step by which the section rises, and an EXT-X-MAP for the first segment and for the first
-/// one of each section. The target duration is the longest printed duration in seconds, to the nearest one, halves up, and at
-/// least 1.
+/// Writes the media playlist of a track of a VOD presentation: each listed segment with its URL and its printed duration, an
+/// EXT-X-DISCONTINUITY for each step by which the section number rises, and an EXT-X-MAP for the first segment and for the
+/// first one of each section. The target duration is the longest printed duration, rounded to the nearest second, halves up,
+/// and at least 1.
 ///
-/// Requires that the track is in range, and that `verify` gave `longest` for this presentation and these digits.
+/// Requires that the track is in range, and that `verify` returned `longest` for this presentation and these digits.
 ///
-/// An error leaves the file as it was, or a front of the text in it. [`OutFault::WriteFault`] comes only where the store's
+/// An error leaves the file as it was, or with a prefix of the text. [`OutFault::WriteFault`] comes only where the store's
 /// count of failed writes rose.
 pub fn write_media<F: Store, L: Ledger>(
     alloc: Global,
@@ -96,7 +96,7 @@ fn write_playlist<F: Store, L: Ledger>(
     Ok(())
 }
 
-/// Adds the whole text.
+/// Writes the whole text.
 fn push_playlist<F: Store, L: Ledger>(
     alloc: Global,
     track: &WrittenTrack<'_>,
@@ -126,7 +126,7 @@ fn head_lines(target: u64) -> [Option<Tag<'static>>; 5]
     ]
 }
 
-/// Adds the lines of a track's segments.
+/// Writes the lines of a track's segments.
 fn push_sections<F: Store, L: Ledger>(
     alloc: Global,
     track: &WrittenTrack<'_>,
@@ -145,7 +145,7 @@ fn push_sections<F: Store, L: Ledger>(
     Ok(())
 }
 
-/// Adds the lines of a track's segments in a section, and tells the section of the last segment so far.
+/// Writes the lines of a track's segments in a section, and returns the section of the last segment so far.
 fn push_section<F: Store, L: Ledger>(
     alloc: Global,
     track: &WrittenTrack<'_>,
@@ -181,7 +181,7 @@ struct InSection<'a> {
     digits: Digits,
 }
 
-/// Writes the address of a segment that has one, and tells its range.
+/// Writes the URL of a segment that has one, and returns its byte range.
 #[inline(always)]
 fn write_address(
     alloc: Global,
@@ -202,7 +202,7 @@ fn write_address(
     }
 }
 
-/// A number of units, of which `unit` make a whole, in wholes: the nearest one, halves up.
+/// `units / unit`, rounded to the nearest whole number, halves up.
 pub(crate) fn rounded(units: u64, unit: u64) -> u64
     requires { 0 < unit }
     ensures { result ≡ spec.rounded unit units }
@@ -223,8 +223,8 @@ fn target_of(units: u64, digits: Digits) -> u64
     rounded(units, u64::from(digits.unit())).max(1)
 }
 
-/// Adds the lines of the segments that are left of a section, behind a segment of the section `former` or as the playlist's
-/// first ones, and tells the section of the last segment so far.
+/// Writes the lines of the remaining segments of a section, after a segment of the section `former` or as the playlist's
+/// first ones, and returns the section of the last segment so far.
 fn push_segments<F: Store, L: Ledger>(
     alloc: Global,
     mut segments: PrintedSegments<'_>,
@@ -249,7 +249,7 @@ fn push_segments<F: Store, L: Ledger>(
     Ok(former)
 }
 
-/// Adds the lines of the segment whose address was written last.
+/// Writes the lines of the segment whose URL was written last.
 fn push_segment<F: Store>(
     addresses: &AddressWriter<'_>,
     range: Option<Range>,

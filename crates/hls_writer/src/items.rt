@@ -1,4 +1,4 @@
-// The playlist of a followed track.
+// The media playlist of a followed track.
 ghost use Rattle.std.specs.Prelude.{◌≡◌, ◌⊎◌, ◌++◌, All, map, IfOk, None, OnOk, OnErr};
 ghost use Rattle.bridge_io.specs.Fault.{HasCause};
 ghost use Rattle.bridge_io.specs.Outside.{put, Changes};
@@ -20,7 +20,7 @@ use iso_time::Instant;
 use std::alloc::Global;
 use url_parts::{Address, Part, Range};
 
-/// What stands above the segments of a followed playlist, and whether no segment follows.
+/// The header values of a live playlist, and whether it has EXT-X-ENDLIST.
 #[derive(Clone, Copy)]
 pub struct MediaHead {
     /// The target duration in seconds (RFC 8216, 4.3.3.1).
@@ -29,20 +29,20 @@ pub struct MediaHead {
     pub sequence: u64,
     /// The discontinuity sequence number: the section of the first segment (RFC 8216, 4.3.3.3).
     pub first_section: u64,
-    /// Whether no segment follows (RFC 8216, 4.3.3.4).
+    /// Whether it has EXT-X-ENDLIST (RFC 8216, 4.3.3.4).
     pub ended: bool,
-    /// How many decimals a duration has.
+    /// The decimals of a duration.
     pub digits: Digits,
 }
 
-/// A segment of a followed playlist.
+/// A segment of a live playlist.
 #[derive(Drop)]
 pub struct MediaItem {
-    /// Where it lies.
+    /// Its URL.
     pub address: Address,
-    /// Which bytes of the file it is; all of them where there is none (RFC 8216, 4.3.2.2).
+    /// Its byte range in the file; `None` is the whole file (RFC 8216, 4.3.2.2).
     pub range: Option<Range>,
-    /// What initializes it (RFC 8216, 4.3.2.5).
+    /// Its init segment (RFC 8216, 4.3.2.5).
     pub map: Part,
     /// Its printed duration, in units of which 10 to the head's number of digits make a second (RFC 8216, 4.3.2.1).
     pub duration: u64,
@@ -86,13 +86,13 @@ impl MediaItem {
     }
 }
 
-/// Writes the playlist of a followed track: dates in UTC with milliseconds, an EXT-X-DISCONTINUITY for each step by which
-/// the section number rises, and an EXT-X-MAP for the first segment and for the first one of each section.
+/// Writes the media playlist of a followed track: dates in UTC with milliseconds, an EXT-X-DISCONTINUITY for each step by
+/// which the section number rises, and an EXT-X-MAP for the first segment and for the first one of each section.
 ///
-/// Requires that the year of each date is 1000 to 9999. The text tells the items where the section numbers don't fall, the
-/// first one is the head's, and the items of a section have one map.
+/// Requires that the year of each date is 1000 to 9999. The text represents the items where the section numbers don't
+/// fall, the first one is the head's, and the items of a section have one map.
 ///
-/// An error leaves the file as it was, or a front of the text in it. [`OutFault::WriteFault`] comes only where the store's
+/// An error leaves the file as it was, or with a prefix of the text. [`OutFault::WriteFault`] comes only where the store's
 /// count of failed writes rose.
 pub fn write_items<F: Store>(
     alloc: Global,
@@ -111,11 +111,11 @@ pub fn write_items<F: Store>(
     write_item_slices(alloc, head, items.as_slice(), &[], store, name)
 }
 
-/// The same of items that stand in two slices, those of `front` before those of `back`.
+/// The same for items in two slices, those of `front` before those of `back`.
 ///
 /// Requires that the year of each date is 1000 to 9999.
 ///
-/// An error leaves the file as it was, or a front of the text in it. [`OutFault::WriteFault`] comes only where the store's
+/// An error leaves the file as it was, or with a prefix of the text. [`OutFault::WriteFault`] comes only where the store's
 /// count of failed writes rose.
 pub fn write_item_slices<F: Store>(
     alloc: Global,
@@ -140,7 +140,7 @@ pub fn write_item_slices<F: Store>(
     Ok(())
 }
 
-/// Adds the whole text.
+/// Writes the whole text.
 fn push_playlist<F: Store>(
     sheet: &mut Sheet<F>,
     head: &MediaHead,
@@ -157,7 +157,7 @@ fn push_playlist<F: Store>(
     push_lines(sheet, &[end])
 }
 
-/// Adds the lines of the items of two slices, as a playlist's first ones.
+/// Writes the lines of the items of two slices, as a playlist's first ones.
 fn push_slices<F: Store>(
     sheet: &mut Sheet<F>,
     digits: Digits,
@@ -173,8 +173,8 @@ fn push_slices<F: Store>(
     Ok(())
 }
 
-/// Adds the lines of items in order, behind a segment of the section `former` or as the playlist's first ones, and tells the
-/// section of the last segment so far.
+/// Writes the lines of items in order, after a segment of the section `former` or as the playlist's first ones, and returns
+/// the section of the last segment so far.
 fn push_items<F: Store>(
     sheet: &mut Sheet<F>,
     digits: Digits,

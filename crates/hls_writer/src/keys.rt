@@ -1,4 +1,4 @@
-// What decides an audio track's group.
+// The keys of audio groups.
 ghost use Rattle.std.specs.Prelude.{◌≡◌, ◌<◌, IfOk, OnOk, length, position, count_by};
 ghost use Rattle.std.specs.Option.{option_eq};
 ghost use Rattle.std.specs.List.{list_any};
@@ -9,16 +9,16 @@ use bridge_io::{Kind, NoMemory, Text};
 use presentation::Track;
 use std::alloc::Global;
 
-/// What the tracks of an audio group have in common, where they aren't there to fill it.
+/// What the tracks of an audio group have in common, apart from those that only fill it.
 #[derive(Clone, Copy)]
 pub(crate) struct Key {
-    /// The place of the first audio track with the same codes.
+    /// The index of the first audio track with the same codecs.
     pub(crate) codes: usize,
-    /// How many tracks with these codes stand before it in its set.
+    /// How many tracks with these codecs are before it in its set.
     pub(crate) rank: usize,
 }
 
-/// The keys of the audio tracks in the order in which they are first seen: those of the groups in order.
+/// The keys of the audio tracks in the order in which they first occur: those of the groups in order.
 pub(crate) fn keys_of(alloc: Global, tracks: &[Track]) -> Result<Vec<Key>, NoMemory>
     ensures { IfOk result (λ keys. keys.items ≡ spec.keys_of tracks.now) }
 {

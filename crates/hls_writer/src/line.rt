@@ -23,7 +23,7 @@ pub enum Tag<'a> {
     MediaSequence(u64),
     /// EXT-X-DISCONTINUITY-SEQUENCE (4.3.3.3).
     DiscontinuitySequence(u64),
-    /// EXT-X-PLAYLIST-TYPE of a playlist that never changes (4.3.3.5).
+    /// EXT-X-PLAYLIST-TYPE:VOD (4.3.3.5).
     OnDemand,
     /// EXT-X-DISCONTINUITY (4.3.2.3).
     Discontinuity,
@@ -38,7 +38,7 @@ pub enum Tag<'a> {
 }
 
 impl Tag<'_> {
-    /// Adds the line with its end.
+    /// Writes the line with its end.
     #[tactic(auto, unfolding(crate::specs::Lines::line_bytes))]
     pub fn push_to<F: Store>(&self, sheet: &mut Sheet<F>) -> Result<(), Fail>
         requires { CanBeWritten self.now }
@@ -78,14 +78,14 @@ impl Tag<'_> {
     }
 }
 
-/// Adds a line of a tag with a number.
+/// Writes a line of a tag with a number.
 fn push_numbered<F: Store>(sheet: &mut Sheet<F>, tag: &[u8], number: u64) -> Result<(), Fail>
     ensures { Adds F.Store (tag.now ++ decimal number ++ 10 ∷ []) sheet.old sheet.new result }
 {
     sheet.push_pieces(&[Piece::Text(tag), Piece::Number(number), Piece::Text(b"\n")])
 }
 
-/// Adds the line of the part of a file that initializes segments.
+/// Writes the line of an init segment.
 #[tactic(auto, unfolding(crate::specs::Lines::line_bytes))]
 fn push_map<F: Store>(sheet: &mut Sheet<F>, part: &Part) -> Result<(), Fail>
     ensures { Adds F.Store (line_text (initialization part.now)) sheet.old sheet.new result }
@@ -106,7 +106,7 @@ fn push_map<F: Store>(sheet: &mut Sheet<F>, part: &Part) -> Result<(), Fail>
     }
 }
 
-/// Adds the line of an address.
+/// Writes the line of a URL.
 #[tactic(auto, unfolding(crate::specs::Lines::line_bytes))]
 pub fn push_uri<F: Store>(sheet: &mut Sheet<F>, address: &str) -> Result<(), Fail>
     ensures { Adds F.Store (line_text (uri address.now)) sheet.old sheet.new result }
@@ -114,7 +114,7 @@ pub fn push_uri<F: Store>(sheet: &mut Sheet<F>, address: &str) -> Result<(), Fai
     sheet.push_pieces(&[Piece::Text(address.as_bytes()), Piece::Text(b"\n")])
 }
 
-/// Adds the line of a printed duration (EXTINF of RFC 8216, 4.3.2.1), in units of the last of so many decimals.
+/// Writes the line of a printed duration (EXTINF of RFC 8216, 4.3.2.1), in units of the last decimal.
 #[tactic(auto, unfolding(crate::specs::Lines::line_bytes))]
 pub fn push_duration<F: Store>(sheet: &mut Sheet<F>, digits: Digits, units: u64) -> Result<(), Fail>
     ensures { Adds F.Store (line_text (duration digits units)) sheet.old sheet.new result }
@@ -129,7 +129,7 @@ pub fn push_duration<F: Store>(sheet: &mut Sheet<F>, digits: Digits, units: u64)
     ])
 }
 
-/// The last nine decimal digits of a number, with zeros in front, and the end of their line.
+/// The last nine decimal digits of a number, with leading zeros, and the end of their line.
 #[tactic(auto, unfolding(iso_time::specs::Digits::padded_digits))]
 fn nine_decimals(number: u64) -> [u8; 11]
     ensures { result ≡ padded_digits 9 number ++ codes ",\n" }
@@ -149,7 +149,7 @@ fn nine_decimals(number: u64) -> [u8; 11]
     ]
 }
 
-/// The decimal digit of a number that counts so many.
+/// The decimal digit of a number with this unit.
 pub(crate) fn decimal_at(number: u64, unit: u64) -> u8
     requires { 0 < unit }
     ensures { result ≡ 48 + number / unit % 10 }
@@ -157,7 +157,7 @@ pub(crate) fn decimal_at(number: u64, unit: u64) -> u8
     b'0' + (number / unit % 10) as u8
 }
 
-/// Adds lines in order, those that are there of some that may be missing.
+/// Writes lines in order, those that are present.
 pub fn push_lines<F: Store>(sheet: &mut Sheet<F>, lines: &[Option<Tag<'_>>]) -> Result<(), Fail>
     requires { All CanBeThere lines.now }
     ensures { Adds F.Store (lines_text (all_written lines.now)) sheet.old sheet.new result }

@@ -23,16 +23,17 @@ use bridge_io::{Fail, FileWriter, Kind, Name, NoMemory, Piece, Sheet, Store};
 use presentation::{Group, Presentation, Track};
 use std::alloc::Global;
 
-/// Writes the master playlist of a presentation: a rendition for each audio track in its own group, for each group and audio set
-/// whose track isn't of the group by its own codes, and for each text track; a variant for each pair of a video track and an
-/// audio group, or for each of one of them where the other is missing. The playlist of the track k is `t<k>.m3u8`.
+/// Writes the multivariant (master) playlist of a presentation: a rendition for each audio track in its own group, for each
+/// group and audio set whose track isn't in the group by its own codecs, and for each text track; a variant for each pair of a
+/// video track and an audio group, or for each of one of them where the other is missing. The media playlist of track k is
+/// `t<k>.m3u8`.
 ///
-/// BANDWIDTH is the sum of the video track's and of the greatest ones of the group's and of the text tracks. CODECS has the
-/// codes of all these tracks, each once, and is there only where each of them has some. FRAME-RATE is rounded to thousandths,
-/// halves up.
+/// BANDWIDTH is the sum of the video track's and of the greatest ones of the group and of the text tracks. CODECS has the codecs
+/// of all these tracks, each once, and is present only where each of them has some. FRAME-RATE is rounded to thousandths, halves
+/// up.
 ///
-/// An error leaves the file as it was, or a front of the text in it. [`OutFault::WriteFault`] comes only where the store's
-/// count of failed writes rose.
+/// An error leaves the file as it was, or with a prefix of the text. [`OutFault::WriteFault`] comes only where the store's count
+/// of failed writes rose.
 pub fn write_master<F: Store>(
     alloc: Global,
     presentation: &Presentation,
@@ -51,7 +52,7 @@ pub fn write_master<F: Store>(
     Ok(())
 }
 
-/// Adds the whole text.
+/// Writes the whole text.
 #[tactic(auto, unfolding(crate::specs::Master::master_text))]
 fn push_master<F: Store>(
     alloc: Global,
@@ -78,7 +79,7 @@ fn push_all<F: Store>(
     push_variants(alloc, tracks, groups, sheet)
 }
 
-/// Adds the lines of the renditions.
+/// Writes the lines of the renditions.
 fn push_renditions<F: Store>(
     alloc: Global,
     tracks: &[Track],
@@ -121,7 +122,7 @@ fn push_rendition<F: Store>(
     )
 }
 
-/// Adds the lines of the variants.
+/// Writes the lines of the variants.
 fn push_variants<F: Store>(
     alloc: Global,
     tracks: &[Track],
@@ -137,7 +138,7 @@ fn push_variants<F: Store>(
     push_told(alloc, sheet, tracks, groups, &texts, &variants)
 }
 
-/// Adds the lines of variants, with the places of the text tracks.
+/// Writes the lines of variants, given the indices of the text tracks.
 fn push_told<'a, F: Store>(
     alloc: Global,
     sheet: &mut Sheet<F>,
@@ -173,7 +174,7 @@ fn push_variant_lines<F: Store>(
     Ok(())
 }
 
-/// Adds the line of a variant and the address of its playlist.
+/// Writes the line of a variant and the URI of its playlist.
 fn push_variant<F: Store>(
     alloc: Global,
     sheet: &mut Sheet<F>,
@@ -188,7 +189,7 @@ fn push_variant<F: Store>(
     }
 }
 
-/// The same, where the codes of its tracks were found.
+/// The same, given the codecs of its tracks.
 #[tactic(auto, unfolding(crate::specs::Lines::line_bytes))]
 fn push_coded_variant<F: Store>(
     sheet: &mut Sheet<F>,

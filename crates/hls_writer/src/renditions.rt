@@ -1,4 +1,4 @@
-// The renditions of a master.
+// The renditions of a master playlist.
 ghost use Rattle.std.specs.Prelude.{◌≡◌, [], IfOk, position, option_map};
 ghost use Rattle.bridge_io.specs.declared.media.Kind.TheVariants.{Text};
 ghost use Rattle.presentation.specs.Order.{is_of};
@@ -15,13 +15,13 @@ use std::alloc::Global;
 #[derive(Clone, Copy)]
 pub(crate) struct Rendition {
     pub(crate) group: RenditionGroup,
-    /// The place of its set among the audio sets, or its own among the text tracks.
+    /// The index of its set among the audio sets, or its own among the text tracks.
     pub(crate) number: usize,
-    /// The place of the track.
+    /// The index of the track.
     pub(crate) track: usize,
 }
 
-/// The places of the tracks of a kind.
+/// The indices of the tracks of a kind.
 pub(crate) fn places_of(alloc: Global, kind: Kind, tracks: &[Track]) -> Result<Vec<usize>, NoMemory>
     ensures { IfOk result (λ places. places.items ≡ spec.places_of kind tracks.now) }
 {
@@ -75,7 +75,7 @@ fn own_renditions(
     Ok(found)
 }
 
-/// An audio track in its own group, in which its set's place among the audio sets is its place.
+/// An audio track in its own group, in which its index is that of its set among the audio sets.
 fn own_rendition(tracks: &[Track], keys: &[Key], groups: &[Group], place: usize) -> Rendition
     ensures { result ≡ spec.own_rendition tracks.now keys.now groups.now place }
 {
@@ -124,7 +124,7 @@ fn filled_renditions(
     Ok(found)
 }
 
-/// The members of a group that isn't their own.
+/// The members of a group for which it isn't their own.
 fn filled_in(
     alloc: Global,
     tracks: &[Track],
@@ -171,14 +171,14 @@ fn language_at(tracks: &[Track], place: usize) -> Option<&str>
 }
 
 impl Rendition {
-    /// Whether it is played where nothing else is chosen: those of the first audio set are.
+    /// Whether it is DEFAULT: those of the first audio set are.
     fn is_default(self) -> bool
         ensures { result ≡ spec.is_default self }
     {
         matches!(self.group, RenditionGroup::Audio(_)) && self.number == 0
     }
 
-    /// What its line says behind its type.
+    /// The attributes of its line after TYPE.
     pub(crate) fn attributes(self, tracks: &[Track]) -> [Option<Attribute<'_>>; 6]
         ensures { all_told result ≡ spec.rendition_attributes tracks.now self }
     {

@@ -1,4 +1,4 @@
-// The variants of a master.
+// The variants of a master playlist.
 ghost use Rattle.std.specs.Prelude.{◌≡◌, ◌++◌, [], IfOk, OnOk, map, option_map, option_and_then};
 ghost use Rattle.std.specs.List.{list_all};
 ghost use Rattle.hls_writer.specs.AttributeRows.{told, all_told, texts_of, texts_in};
@@ -13,14 +13,14 @@ use presentation::{Group, Track};
 use std::alloc::Global;
 use text_lists::TextLists;
 
-/// A video track with an audio group, or one of the two alone (RFC 8216, 4.3.4.2).
+/// A video track with an audio group, or only one of the two (RFC 8216, 4.3.4.2).
 #[derive(Clone, Copy)]
 pub(crate) struct Variant {
-    /// The place of the video track.
+    /// The index of the video track.
     pub(crate) video: Option<usize>,
     /// The audio group.
     pub(crate) group: Option<usize>,
-    /// The place of the track whose playlist it names.
+    /// The index of the track whose playlist it names.
     pub(crate) track: usize,
 }
 
@@ -77,7 +77,7 @@ fn video_variant(place: usize, group: Option<usize>) -> Variant
     }
 }
 
-/// Each group, or none where there are none.
+/// Each group, or `None` where there are none.
 fn choices(alloc: Global, groups: &[Group]) -> Result<Vec<Option<usize>>, NoMemory>
     ensures { IfOk result (λ found. found.items ≡ spec.choices groups.now) }
 {
@@ -113,7 +113,7 @@ fn sound_variant(group: usize, members: &[usize]) -> Variant
     }
 }
 
-/// What the lines of variants are told from: the tracks, the audio groups, the places of the text tracks and the codes by track.
+/// The data for the lines of variants: the tracks, the audio groups, the indices of the text tracks and the codecs by track.
 #[derive(Clone, Copy)]
 pub(crate) struct Cast<'a, 'b> {
     pub(crate) tracks: &'a [Track],
@@ -147,8 +147,8 @@ impl<'a> Cast<'a, '_> {
         u128::from(video) + u128::from(sound) + u128::from(texts)
     }
 
-    /// The codes of the video track, of the group's tracks and of the text tracks, each once; none where one of the tracks has
-    /// none.
+    /// The codecs of the video track, of the group's tracks and of the text tracks, each once; `None` where one of the tracks
+    /// has none.
     #[tactic(auto, unfolding(crate::specs::Variants::codes_of))]
     pub(crate) fn codes(
         &self,
@@ -165,7 +165,7 @@ impl<'a> Cast<'a, '_> {
         Ok(Some(self.codes.merged(&places)?))
     }
 
-    /// The places of the video track, the group's tracks and the text tracks.
+    /// The indices of the video track, the group's tracks and the text tracks.
     fn places(&self, alloc: Global, variant: Variant) -> Result<Vec<usize>, NoMemory>
         ensures { IfOk result (λ places. places.items ≡ spec.cast_of self.now.groups.now self.now.texts.now variant) }
     {
@@ -178,7 +178,7 @@ impl<'a> Cast<'a, '_> {
         Ok(places)
     }
 
-    /// What a variant's line says behind its bandwidth.
+    /// The attributes of a variant's line after BANDWIDTH.
     pub(crate) fn attributes<'c>(
         &self,
         variant: Variant,
@@ -217,7 +217,7 @@ fn greatest(tracks: &[Track], places: &[usize]) -> u64
     most
 }
 
-/// The codes of each track, and none of a track whose codes aren't known.
+/// The codecs of each track, and none for a track whose codecs aren't known.
 pub(crate) fn code_lists(alloc: Global, tracks: &[Track]) -> Result<TextLists<'_>, NoMemory>
     ensures { IfOk result (λ lists. lists ≡ spec.code_lists tracks.now) }
 {

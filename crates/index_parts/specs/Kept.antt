@@ -1,4 +1,4 @@
--- The presentation of a Period, made track by track, where contents past the limit of segments aren't kept.
+-- The presentation of a Period, made track by track; contents past the limit of segments are dropped.
 use Rattle.std.specs.Prelude.{ℕ, ◌+◌, ◌-◌, ◌^◌, ◌==◌, min, nat_lt, List, [], ◌∷◌, ◌++◌, length, map, if◌then◌else◌, Result, Ok, Err}
 use Rattle.bridge_io.specs.{Answer.and_then, declared.media.Kind.Kind, declared.media.Kind.TheVariants.{Video, Audio, Text}, Outside.Files}
 use Rattle.presentation.specs.{declared.fault.PresentationFault.TheVariants.Limit, declared.parts.Content.Content}
@@ -41,7 +41,7 @@ all_gathered url folder files rows =
     and_then (kind_kept url folder files Audio video rows) (λ audio.
     kind_kept url folder files Text audio rows))
 
--- contents that aren't kept are too many
+-- contents are dropped where there are too many segments
 abbrev pub all_kept : (tracks : ℕ) → List Content → Result (List Content) IndexFault
 all_kept tracks contents = if length contents == tracks then Ok contents else Err (Presentation Limit)
 

@@ -1,4 +1,4 @@
--- What holds of the segments that an index tells.
+-- Laws of the segments of a `sidx`.
 use Rattle.std.specs.Prelude.{◌≡◌, ℕ, ◌+◌, List, [], ◌∷◌, map, length, take, drop, All, Option, Some, None, Ok}
 use Rattle.bridge_io.specs.Outside.{Files}
 use Rattle.exact_time.specs.Time.{in_units}
@@ -7,7 +7,7 @@ use Rattle.timeline.specs.{declared.names.Names.TheVariants.Addresses, Expansion
 use Rattle.url_parts.specs.{Addresses.{chain, local_name_of}, declared.address.Part.Part, declared.range.Range.Range}
 use Rattle.index_parts.specs.{declared.located.Listed.Listed, Located.track_parts, Rows.{Row, told_in}}
 
--- the first byte of a part and the first one behind it
+-- the offset of the first byte of a part, and of the first one after it
 abbrev pub bytes_by : Option Range → ℕ × ℕ
 bytes_by None = (0, 0)
 bytes_by (Some range) = (range.first, range.first + range.count)
@@ -23,9 +23,9 @@ LastAs timescale start (r ∷ rs) [] = ⊥
 LastAs timescale start (r ∷ rs) (x ∷ xs) =
     (x.start ≡ in_units timescale start) × (x.end ≡ in_units timescale (start + r.duration)) × LastAs timescale (start + r.duration) rs xs
 
--- A Representation's segments are told by the first index in the index range of its file. They are parts of that file, one for each
--- of the index's references, in their order: each has as many bytes as its reference says, they lie one behind another, from the
--- first byte that the index covers up to the last one's end, and each lasts as long as its reference says.
+-- A Representation's segments are those of the first `sidx` in the index range of its file. They are byte ranges of that file, one
+-- for each reference, in order: each has the size of its reference, they follow one another, from the first byte that the `sidx`
+-- covers up to the end of the last one, and each lasts as long as its reference says.
 pub record IsIndexed (url folder : List ℕ) (files : Files) (row : Row) (listed : Listed) : Type 0 where
   pub address : List ℕ
   pub file : List ℕ

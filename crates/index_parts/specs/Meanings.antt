@@ -1,5 +1,5 @@
--- What an MPD means whose media files have an index inside, without any limit, and without bounds on numbers and on the length of
--- addresses: ISO/IEC 23009-1, 5.3.9.2 and ISO/IEC 14496-12, 8.16.3.
+-- What an MPD means whose media files have a `sidx`, without any limit, and without bounds on numbers and on the length of URLs:
+-- ISO/IEC 23009-1, 5.3.9.2 and ISO/IEC 14496-12, 8.16.3.
 use Rattle.std.specs.{Prelude.{ℕ, ◌+◌, List, [], ◌∷◌, map, take, drop, Option, Some, None, option_and_then, option_map}, Result.result_ok}
 use Rattle.bridge_io.specs.Outside.{Files}
 use Rattle.exact_time.specs.Time.{in_units}
@@ -15,7 +15,7 @@ use Rattle.index_parts.specs.{Located.part_before, Rows.{Period, Row, told_in}, 
 
 -- ---- segments
 
--- each is as many bytes as its reference says, behind the one before it, and lasts as long from that one's end on
+-- each has the size and the duration of its reference, and begins, in bytes and in time, at the end of the one before it
 abbrev pub segments_from : (address : List ℕ) (timescale first start : ℕ) → List Reference → List Segment
 segments_from address timescale first start [] = []
 segments_from address timescale first start (r ∷ rs) =
@@ -32,12 +32,12 @@ abbrev pub initialization_by : (address : List ℕ) → Range → Option Initial
 initialization_by address index None = part_before address index
 initialization_by address index (Some initialization) = part_with initialization.range (address_by address initialization.reference)
 
--- the first index among the boxes of a range of a file
+-- the first `sidx` among the boxes of a range of a file
 abbrev pub index_among : Range → (bytes : List ℕ) → Option Index
 index_among range bytes =
     option_and_then (λ found. found) (result_ok (index_of (record { at = range.first; bytes = take range.count (drop range.first bytes) })))
 
--- nothing where no segment is told
+-- `None` where there is no segment
 abbrev pub entry_with : Part → List Segment → Option Entry
 entry_with initialization [] = None
 entry_with initialization (segment ∷ segments) = Some (record { initialization = initialization; segments = segment ∷ segments })
@@ -45,7 +45,7 @@ entry_with initialization (segment ∷ segments) = Some (record { initialization
 abbrev pub entry_by : (address : List ℕ) → IndexTold → Index → Option Entry
 entry_by address told index = entry_with (initialization_by address told.range told.initialization) (segments_of address index)
 
--- what a Representation has, unless its file or the index isn't there
+-- the content of a Representation, unless its file or the `sidx` is missing
 abbrev pub entry_at : (folder : List ℕ) → Files → (address : List ℕ) → IndexTold → Option (Option Entry)
 entry_at folder files address told =
     option_map (entry_by address told) (option_and_then (index_among told.range) (option_and_then files (local_name_of folder address)))
@@ -63,7 +63,7 @@ with_first (Some x) (Some xs) = Some (x ∷ xs)
 with_first (Some x) None = None
 with_first None xs = None
 
--- what each gives, unless one gives nothing
+-- what each gives, unless one gives `None`
 abbrev pub all_of : {X Y : Type 0} → (X → Option Y) → List X → Option (List Y)
 all_of give [] = Some []
 all_of give (x ∷ xs) = with_first (give x) (all_of give xs)
@@ -80,8 +80,8 @@ meaning_by url folder files (period ∷ later) = meaning_over url folder files (
 unfoldable pub meaning_of : (url folder : List ℕ) → Files → TypedMpd (Option IndexRow) → Option Meaning
 meaning_of url folder files mpd = meaning_by url folder files mpd.periods
 
--- What the text of an MPD means at its URL, with the files of a store whose folder has another one. It means nothing where it
--- isn't the text of a tree, or a media file or its index isn't there.
+-- What the text of an MPD means at its URL, with the files of a store whose folder has the second URL. It has no meaning
+-- where it isn't the text of a tree, or a media file or its `sidx` is missing.
 unfoldable pub indexed_meaning : (bytes url folder : List ℕ) → Files → Option Meaning
 indexed_meaning bytes url folder files =
     option_and_then (λ tree. meaning_of url folder files (index_values tree)) (result_ok (reading_of bytes))

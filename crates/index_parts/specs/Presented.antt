@@ -1,4 +1,4 @@
--- What presentation an MPD and its media files give, or the first refusal: ISO/IEC 23009-1, 5.3.9.2.
+-- The presentation of an MPD and its media files, or the first error: ISO/IEC 23009-1, 5.3.9.2.
 use Rattle.std.specs.Prelude.{ℕ, nat_lt, List, [], ◌∷◌, length, map, sum_by, if◌then◌else◌, Option, Result, Ok, Err}
 use Rattle.bridge_io.specs.{Answer.and_then, Outside.Files}
 use Rattle.mpd_levels.specs.declared.indexed.IndexRow.{IndexRow}
@@ -15,13 +15,13 @@ use Rattle.index_parts.specs.{declared.located.Listed.Listed, Located.track_part
 abbrev pub few_tracks : List Track → Result (List Track) IndexFault
 few_tracks tracks = if nat_lt 200 (length tracks) then Err (Presentation Limit) else Ok tracks
 
--- what each Representation has, in their order, or the first refusal
+-- the contents of the Representations, in order, or the first error
 abbrev pub all_parts : (url folder : List ℕ) → Files → List Row → Result (List Listed) IndexFault
 all_parts url folder files [] = Ok []
 all_parts url folder files (row ∷ rows) =
     and_then (track_parts url folder files row) (λ one. and_then (all_parts url folder files rows) (λ later. Ok (one ∷ later)))
 
--- at most 500,000 segments; an index tells fewer than 65,536
+-- at most 500,000 segments; a `sidx` has fewer than 65,536
 abbrev pub total : List Listed → ℕ
 total tracks = sum_by (λ (track : Listed). track.segments) tracks
 
@@ -46,11 +46,11 @@ presented_in url folder files left_out period =
 abbrev pub nothing : (left_out : ℕ) → Presented
 nothing left_out = of_parts (record { tracks = []; sections = []; contents = []; left_out = left_out })
 
--- no rule lets an MPD through that hasn't one Period
+-- the rules of an MPD reject it unless it has one Period
 abbrev pub presented_by : (url folder : List ℕ) → Files → (left_out : ℕ) → List Period → Result Presented IndexFault
 presented_by url folder files left_out [] = Ok (nothing left_out)
 presented_by url folder files left_out (period ∷ later) = presented_in url folder files left_out period
 
--- The presentation of an MPD at a URL, whose files lie in a store whose folder has another one, or the first refusal.
+-- The presentation of an MPD at a URL, with the files of a store whose folder has the second URL, or the first error.
 unfoldable pub indexed_of : (url folder : List ℕ) → Files → TypedMpd (Option IndexRow) → Result Presented IndexFault
 indexed_of url folder files mpd = presented_by url folder files mpd.left_out mpd.periods

@@ -1,4 +1,4 @@
--- The Representations of a Period whose files have an index inside.
+-- The Representations of a Period whose files have a `sidx`.
 use Rattle.std.specs.Prelude.{List, map, Option, Some}
 use Rattle.mpd_levels.specs.declared.indexed.IndexRow.{IndexRow}
 use Rattle.mpd_rules.specs.{declared.file_index.FileIndex.FileIndex, declared.rows.PeriodRow.PeriodRow, declared.rows.TrackRow.TrackRow}
@@ -6,14 +6,14 @@ use Rattle.mpd_rules.specs.{declared.view.PeriodWalk.PeriodWalk, declared.view.R
 use Rattle.mpd_rules.specs.{declared.view.TypedPeriod.TypedPeriod, Held.Keyed, Indexes.{Index, index_told}, Typed.{period_with, track_with}}
 use Rattle.mpd_rules.specs.Views.{index_in, period_in, periods_left, track_in, tracks_left}
 
--- a Representation and a Period, with how their indexes are told
+-- a Representation and a Period, with index ranges
 abbrev pub Row : Type 0
 Row = TrackRow (Option IndexRow)
 
 abbrev pub Period : Type 0
 Period = PeriodRow (Option IndexRow)
 
--- the bytes of a file's index, and its Initialization, where there is one
+-- the byte range of a file's `sidx`, and its Initialization, where there is one
 abbrev pub told_in : Row → Index
 told_in row = index_told row.segments
 

@@ -1,4 +1,4 @@
--- The segments that an index tells: each of its references is one (ISO/IEC 14496-12, 8.16.3).
+-- The segments of a `sidx`: each of its references is one (ISO/IEC 14496-12, 8.16.3).
 use Rattle.std.specs.{Prelude.{ℕ, ◌+◌, max, not, List, [], ◌∷◌, length, map, Option, Some, None, Result}, List.list_any}
 use Rattle.exact_time.specs.Time.{in_units}
 use Rattle.url_parts.specs.declared.address.Part.{Part}
@@ -10,16 +10,16 @@ use Rattle.segment_index.specs.{declared.reference.Reference.Reference, Index.In
 
 -- ---- which bytes, and when
 
--- a segment is so many bytes of the file from one on
+-- a segment is a byte range of the file, with the size of its reference
 abbrev pub part_of : (address : List ℕ) (first : ℕ) → Reference → Part
 part_of address first r = record { address = address; range = Some (record { first = first; count = r.size }) }
 
--- and begins behind the one before it
+-- and begins after the one before it
 abbrev pub parts_from : (address : List ℕ) (first : ℕ) → List Reference → List Part
 parts_from address first [] = []
 parts_from address first (r ∷ rs) = part_of address first r ∷ parts_from address (first + r.size) rs
 
--- it lasts so many ticks from one on
+-- its duration is that of its reference, in ticks
 abbrev pub extent_of : (timescale start : ℕ) → Reference → Extent
 extent_of timescale start r = record { start = in_units timescale start; end = in_units timescale (start + r.duration) }
 
@@ -30,7 +30,7 @@ extents_from timescale start (r ∷ rs) = extent_of timescale start r ∷ extent
 
 -- ---- as a timeline
 
--- no index that isn't refused has a timescale of 0
+-- a valid `sidx` doesn't have timescale 0
 abbrev pub ticks_of : Index → ℕ
 ticks_of index = max 1 index.timescale
 
@@ -51,7 +51,7 @@ timeline_with ticks parts xs = record {
   names = Addresses parts;
 }
 
--- the first fault of times that are given one by one
+-- the first fault of given times
 abbrev pub fault_of : List Part → List Extent → Option TimeFault
 fault_of parts xs = or_fault (fault_if (list_any lasts_no_time xs) ZeroDuration)
     (or_fault (segment_fault span_breaks_limits None (map Closed xs))
@@ -60,6 +60,6 @@ fault_of parts xs = or_fault (fault_if (list_any lasts_no_time xs) ZeroDuration)
 abbrev pub timeline_of : (ticks : ℕ) → List Part → List Extent → Result SegmentTimeline TimeFault
 timeline_of ticks parts xs = unless_fault (fault_of parts xs) (timeline_with ticks parts xs)
 
--- the segments of a file with this address
+-- the segments of a file with this URL
 unfoldable pub runs_of : (address : List ℕ) → Index → Result SegmentTimeline TimeFault
 runs_of address index = timeline_of (ticks_of index) (parts_in address index) (extents_in index)

@@ -1,4 +1,4 @@
-// The index of a media file.
+// The `sidx` of a media file.
 ghost use Rattle.std.specs.Prelude.{◌≡◌, ◌<◌, ◌≤◌, ◌+◌, ◌^◌, length, flat_map, IfOk};
 ghost use Rattle.segment_index.specs.Laws.{end_from};
 ghost use Rattle.index_parts.specs.Found as spec;
@@ -7,7 +7,7 @@ ghost use Rattle.index_parts.specs.Refusals.{unless_any};
 use crate::FileFault;
 use segment_index::{Reference, References, SegmentIndex, index_in};
 
-/// The first index among the boxes of some bytes, the first of which stands at a place of the file, unless it tells no segments.
+/// The first `sidx` among the boxes of some bytes, the first of which is at offset `first` of the file, unless it is invalid.
 ///
 /// Requires that the bytes lie in the first 2^63 of a file.
 #[tactic(auto, unfolding(crate::specs::Found::index_in))]
@@ -27,7 +27,7 @@ pub(crate) fn checked_index(bytes: &[u8], first: u64) -> Result<SegmentIndex<'_>
     }
 }
 
-/// Looks for the first fault of an index.
+/// Finds the first fault of a `sidx`.
 fn check(index: &SegmentIndex<'_>) -> Result<(), FileFault>
     ensures fault { result ≡ unless_any (spec.index_faults index.now) tt }
     ensures ends { IfOk result (λ _. end_from index.now.first index.now.references ≤ 2 ^ 63) }
@@ -46,7 +46,7 @@ fn check(index: &SegmentIndex<'_>) -> Result<(), FileFault>
     Ok(())
 }
 
-/// The first byte behind those that references cover from one on, unless one of them is refused.
+/// The offset after the bytes that references cover from an offset on, unless one of them is invalid.
 fn end_of(first: u128, references: References<'_>) -> Result<u128, FileFault>
     requires near { first < 2 ^ 65 }
     requires few { length references < 2 ^ 16 }

@@ -1,6 +1,6 @@
-//! The presentation of an MPD whose media files have an index inside (ISO/IEC 23009-1, 5.3.9.2; ISO/IEC 14496-12, 8.16.3).
+//! The presentation of an MPD whose media files have a `sidx` (ISO/IEC 23009-1, 5.3.9.2; ISO/IEC 14496-12, 8.16.3).
 //!
-//! Of a media file only the bytes of its index are read. Each of its references is a segment.
+//! Only the bytes of its `sidx` are read of a media file. Each of its references is a segment.
 #![tactic(auto)]
 
 mod fault;
@@ -13,4 +13,5 @@ mod segments;
 pub use fault::IndexFault;
 pub use laws::segments_tile;
 pub use layer_faults::index::FileFault;
+pub use located::{address_of, deepest};
 pub use parts::index_parts;

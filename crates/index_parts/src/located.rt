@@ -1,4 +1,4 @@
-// What an MPD tells of a media file with an index inside, and what the file tells.
+// What an MPD says about a media file with a `sidx`, and what the file itself says.
 ghost use Rattle.std.specs.Prelude.{◌≡◌, ◌≤◌, ◌+◌, ◌^◌, length, IfOk, option_map};
 ghost use Rattle.std.specs.Option.{ForSome};
 ghost use Rattle.bridge_io.specs.Answer.{Gives};
@@ -25,30 +25,30 @@ use segment_index::SegmentIndex;
 use std::alloc::Global;
 use url_parts::{Address, Base, Part, Range, UrlFault, local_name};
 
-/// How many bytes an index range has at most.
+/// The most bytes of an index range.
 const MOST_BYTES: u64 = 8_388_608;
 
-/// What a Representation has, and how many segments that are.
+/// The content of a Representation, and how many segments it has.
 #[derive(Drop)]
 pub(crate) struct Listed {
     pub(crate) content: Content,
     pub(crate) segments: u64,
 }
 
-/// What an MPD tells of a Representation's file.
+/// What an MPD says about a Representation's file.
 #[derive(Drop)]
 pub(crate) struct Located {
     address: Address,
     initialization: Part,
     /// Its name in the store.
     file: Name,
-    /// The bytes of its index.
+    /// The byte range of its `sidx`.
     index: Range,
-    /// Where the Representation stands.
+    /// The position of the Representation.
     place: Place,
 }
 
-/// Where an MPD lies, and the files that it tells of.
+/// The URLs of an MPD and of its files.
 #[derive(Clone, Copy)]
 pub(crate) struct Setting<'a> {
     /// The MPD's own URL.
@@ -58,7 +58,7 @@ pub(crate) struct Setting<'a> {
 }
 
 impl Setting<'_> {
-    /// What a Representation has, by the index of its file.
+    /// The content of a Representation, by the `sidx` of its file.
     #[tactic(auto, unfolding(crate::specs::Located::track_parts))]
     pub(crate) fn listed<F: Store>(
         &self,
@@ -77,7 +77,7 @@ impl Setting<'_> {
         located.listed(alloc, store)
     }
 
-    /// What the MPD tells of a Representation's file.
+    /// What the MPD says about a Representation's file.
     #[tactic(auto, unfolding(crate::specs::Located::located_of))]
     fn locate(&self, alloc: Global, view: &IndexedRep<'_>) -> Result<Located, IndexFault>
         ensures located { Gives (λ located. located) refusal result
@@ -107,7 +107,7 @@ impl Setting<'_> {
 }
 
 impl Located {
-    /// What the Representation has, by the bytes of its index, which are all that is read of the file.
+    /// The content of the Representation, by the bytes of its `sidx`. Nothing else of the file is read.
     #[tactic(auto, unfolding(crate::specs::Located::listed_at, crate::specs::Located::read_of))]
     fn listed<F: Store>(self, alloc: Global, store: &mut F) -> Result<Listed, IndexFault>
         requires small { self.index.count ≤ 8388608 }
@@ -126,7 +126,7 @@ impl Located {
         }
     }
 
-    /// The same, by these bytes of the index.
+    /// The same, given the bytes of the `sidx`.
     #[tactic(auto, unfolding(crate::specs::Located::listed_in))]
     fn listed_in(self, alloc: Global, bytes: &[u8]) -> Result<Listed, IndexFault>
         requires { self.index.first + length bytes.now ≤ 2 ^ 63 }
@@ -162,7 +162,7 @@ impl Located {
     }
 }
 
-/// The bytes of a file's index.
+/// The byte range of a file's `sidx`.
 fn range_of(view: &IndexedRep<'_>) -> Range
     ensures range { result ≡ (told_in (row_of view.now)).range }
     ensures bounded { result.first + result.count ≤ 2 ^ 63 }
@@ -170,7 +170,7 @@ fn range_of(view: &IndexedRep<'_>) -> Range
     view.index_range()
 }
 
-/// What the BaseURLs of a Representation give.
+/// The base that the BaseURLs of a Representation give.
 fn base_of(alloc: Global, url: &Base, view: &IndexedRep<'_>) -> Result<Base, IndexFault>
     ensures base { Gives (λ base. base) refusal result (spec.address_of url.now (row_of view.now).description) }
     ensures no_fault { IsNoFault result }
@@ -181,8 +181,8 @@ fn base_of(alloc: Global, url: &Base, view: &IndexedRep<'_>) -> Result<Base, Ind
     }
 }
 
-/// The base that references give one after another.
-fn deepest(alloc: Global, url: &Base, references: BaseWalk<'_>) -> Result<Base, UrlFault>
+/// The base that references give one after another (ISO/IEC 23009-1, 5.6.4), or the first fault.
+pub fn deepest(alloc: Global, url: &Base, references: BaseWalk<'_>) -> Result<Base, UrlFault>
     ensures { Gives (λ base. base) url_refusal result (chain url.now (bases_left references.entry)) }
 {
     let mut base = url.copy(alloc)?;
@@ -192,7 +192,7 @@ fn deepest(alloc: Global, url: &Base, references: BaseWalk<'_>) -> Result<Base, 
     Ok(base)
 }
 
-/// The initialization part of a Representation.
+/// The init segment of a Representation.
 fn initialization_of(alloc: Global, view: &IndexedRep<'_>, base: &Base) -> Result<Part, IndexFault>
     ensures part { Gives (λ part. part) refusal result
         (spec.initialization_of (row_of view.now).description base.now (told_in (row_of view.now))) }
@@ -218,7 +218,7 @@ fn initialization_by(alloc: Global, view: &IndexedRep<'_>, base: &Base) -> Resul
     })
 }
 
-/// What stands before the index.
+/// The bytes before the `sidx`.
 fn part_before(alloc: Global, base: &Base, index: Range) -> Result<Part, NoMemory>
     ensures { IfOk result (λ part. part ≡ spec.part_before base.now index) }
 {
@@ -233,7 +233,7 @@ fn part_before(alloc: Global, base: &Base, index: Range) -> Result<Part, NoMemor
     })
 }
 
-/// The address of a reference against a base. An absent one is the base itself.
+/// The URL of a reference against a base. A missing reference is the base itself.
 #[tactic(auto, using(mpd_presentation::proofs::OwnAddress::own_address))]
 fn refer(alloc: Global, base: &Base, reference: Option<&str>) -> Result<Address, UrlFault>
     ensures { Gives (λ address. address) url_refusal result (referred base.now (option_map (λ text. text.now) reference.entry)) }
@@ -244,9 +244,9 @@ fn refer(alloc: Global, base: &Base, reference: Option<&str>) -> Result<Address,
     }
 }
 
-/// The address that a base is, which is refused for want of memory alone.
+/// The address that a base is. The only error is out of memory.
 #[tactic(auto, using(mpd_presentation::proofs::OwnAddress::own_address))]
-fn address_of(alloc: Global, base: &Base) -> Result<Address, NoMemory>
+pub fn address_of(alloc: Global, base: &Base) -> Result<Address, NoMemory>
     ensures { IfOk result (λ address. address ≡ base.now) }
 {
     base.join(alloc, base.as_str()).map_err(|_| NoMemory)

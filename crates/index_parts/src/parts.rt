@@ -22,26 +22,25 @@ use presentation::{ContentList, Parts, Presentation, PresentationFault, SectionL
 use std::alloc::Global;
 use url_parts::Base;
 
-/// How many tracks a presentation has at most.
+/// The most tracks of a presentation.
 const TRACK_LIMIT: usize = 200;
 
-/// How many segments all tracks have at most.
+/// The most segments of all tracks.
 const SEGMENT_LIMIT: u64 = 500_000;
 
-/// What tracks have. Contents past the limit of segments aren't kept.
+/// The contents of tracks. Contents past the limit of segments are dropped.
 #[derive(Drop)]
 pub(crate) struct Gathering {
     contents: ContentList,
-    /// How many segments there are, those that aren't kept among them, up to the last value of the counter.
+    /// How many segments there are, including dropped ones, up to the last value of the counter.
     segments: u64,
 }
 
-/// The presentation of a static MPD of one Period whose media files have an index inside: its tracks, video before audio before
-/// text, each with a segment for each reference of its index. `base` is the MPD's own URL, and `folder` that of the store's
-/// folder.
+/// The presentation of a static MPD of one Period whose media files have a `sidx`: its tracks, video before audio before text,
+/// each with a segment for each reference of its `sidx`. `base` is the MPD's own URL, and `folder` that of the store's folder.
 ///
-/// Of each file only the bytes of its index range are read, and the store's files stay as they are. The faults come in the order
-/// of [`IndexFault`]. Fault comes only where the store's count of failed reads rose.
+/// Only the bytes of its index range are read of each file, and the store's files stay as they are. The faults come in the order
+/// of [`IndexFault`]. `Fault` comes only where the store's count of failed reads rose.
 #[tactic(auto, unfolding(crate::specs::Presented::indexed_of))]
 pub fn index_parts<F: Store>(
     alloc: Global,
@@ -99,7 +98,7 @@ impl Setting<'_> {
         gathering.present(alloc, period, tracks, left_out)
     }
 
-    /// What the Representations of a Period have, in the order of the tracks.
+    /// The contents of the Representations of a Period, in the order of the tracks.
     #[tactic(auto, unfolding(crate::specs::Kept::all_gathered))]
     fn gathered<F: Store>(
         &self,
@@ -123,7 +122,7 @@ impl Setting<'_> {
         self.with_kind(alloc, audio, period.tracks(), Kind::Text, store)
     }
 
-    /// Adds what the Representations of a kind have, in document order.
+    /// Adds the contents of the Representations of a kind, in document order.
     fn with_kind<F: Store>(
         &self,
         alloc: Global,
@@ -147,7 +146,7 @@ impl Setting<'_> {
         Ok(gathering)
     }
 
-    /// Adds what a Representation has, if it is of a kind.
+    /// Adds the content of a Representation, if it is of a kind.
     fn with_any<F: Store>(
         &self,
         alloc: Global,
@@ -171,7 +170,7 @@ impl Setting<'_> {
         }
     }
 
-    /// Adds what a Representation has.
+    /// Adds the content of a Representation.
     #[tactic(auto, unfolding(crate::specs::Kept::kept_with))]
     fn with_track<F: Store>(
         &self,
@@ -194,7 +193,7 @@ impl Setting<'_> {
 }
 
 impl Gathering {
-    /// Adds what a track has.
+    /// Adds the content of a track.
     fn keep(mut self, listed: Listed) -> Result<Gathering, NoMemory>
         requires former { All IsEnded self.contents }
         requires ended { IsEnded listed.content }
@@ -209,7 +208,7 @@ impl Gathering {
         Ok(self)
     }
 
-    /// The presentation of a Period, of whose tracks this is what they have.
+    /// The presentation of a Period with these contents of its tracks.
     fn present(
         self,
         alloc: Global,
@@ -222,7 +221,7 @@ impl Gathering {
             (kept.presented_of left_out (period_of period.now) tracks self) }
         ensures no_fault { IsNoFault result }
     {
-        // Contents that aren't kept are too many.
+        // Contents are dropped where there are too many segments.
         if self.contents.len() != tracks.len() {
             return Err(IndexFault::Presentation(PresentationFault::Limit));
         }
@@ -237,7 +236,7 @@ impl Gathering {
     }
 }
 
-/// The tracks of a Period, unless they are too many.
+/// The tracks of a Period, unless there are too many.
 fn tracks_of(alloc: Global, period: &IndexedPeriod<'_>) -> Result<TrackList, IndexFault>
     ensures tracks { Gives (λ tracks. tracks) refusal result (spec.few_tracks (map track_of (in_order (period_of period.now).tracks))) }
     ensures no_fault { IsNoFault result }
@@ -249,7 +248,7 @@ fn tracks_of(alloc: Global, period: &IndexedPeriod<'_>) -> Result<TrackList, Ind
     Ok(tracks)
 }
 
-/// The section that a Period is.
+/// The section of a Period.
 fn sections_of(alloc: Global, period: &IndexedPeriod<'_>) -> Result<SectionList, NoMemory>
     ensures { IfOk result (λ sections. sections ≡ section_of (period_in period.now) ∷ []) }
 {

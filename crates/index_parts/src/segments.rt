@@ -1,4 +1,4 @@
-// The segments that an index tells.
+// The segments of a `sidx`.
 ghost use Rattle.std.specs.Prelude.{◌≡◌, ◌<◌, ◌≤◌, ◌^◌, false, map, IfOk};
 ghost use Rattle.bridge_io.specs.Answer.{Gives};
 ghost use Rattle.exact_time.specs.Tick.{time_of};
@@ -16,9 +16,9 @@ use std::alloc::Global;
 use timeline::{Names, PartList, Runs, Scale, Span, SpanList, TimeFault, closed_ends};
 use url_parts::{Address, Part, Range};
 
-/// The segments of the file with this address, one for each reference of its index.
+/// The segments of the file with this URL, one for each reference of its `sidx`.
 ///
-/// Requires that the bytes that are covered lie in the first 2^63 of the file.
+/// Requires that the covered bytes lie in the first 2^63 of the file.
 #[tactic(auto, unfolding(crate::specs::Segments::runs_of))]
 pub(crate) fn runs_of(
     alloc: Global,
@@ -35,7 +35,7 @@ pub(crate) fn runs_of(
     Runs::from_list(alloc, &spans, scale_of(index), names)
 }
 
-/// How the ticks of an index are counted, and its segments numbered.
+/// The timescale of a `sidx`, and the numbering of its segments.
 fn scale_of(index: &SegmentIndex<'_>) -> Scale
     ensures ticks { result.ticks ≡ spec.ticks_of index.now }
     ensures offset { result.offset ≡ 0 }
@@ -79,7 +79,7 @@ fn tick_at(time: u64, scale: u32) -> Tick
     }
 }
 
-/// The bytes of segments, each of which begins behind the one before it.
+/// The byte ranges of segments, each of which begins after the one before it.
 ///
 /// Requires that they lie in the first 2^63 of the file.
 fn parts_of(

@@ -1,4 +1,4 @@
--- The civil date and time of an instant in UTC, by the day numbers of `jiff`.
+-- The civil date and time of a timestamp in UTC, by the day numbers of `jiff`.
 use Rattle.std.specs.Prelude.{ℕ, zero, suc, ◌+◌, ◌/◌, ◌%◌, Bool, not, if◌then◌else◌, List, [], ◌∷◌, ◌++◌, ℤ, pos, ◌-ℤ◌, ◌*ℤ◌, int_lt}
 use Rattle.std.specs.{Prelude.unsigned_abs, Int.{int_div_euclid, int_rem_euclid}}
 use Rattle.jiff_core.specs.{Calendar.days_from_civil, declared.civil.datetime.DateTime.DateTime}
@@ -42,7 +42,7 @@ civil_text dt =
     moment_text (unsigned_abs dt.date.year) dt.date.month dt.date.day
     dt.time.hour dt.time.minute dt.time.second (dt.time.subsec_nanosecond / 1_000_000)
 
--- the text of an instant, rounded down to milliseconds
+-- the text of a timestamp, rounded down to milliseconds
 unfoldable pub instant_text : ℤ → List ℕ
 instant_text nanos =
     let day = int_div_euclid nanos day_nanos in

@@ -12,7 +12,7 @@ pub record SecondsParts : Type 0 where
   pub whole : List ℕ
   pub fraction : Option (List ℕ)
 
--- the digits of what stands after `T`
+-- the digits of the parts after `T`
 pub record ClockParts : Type 0 where
   pub hours : Option (List ℕ)
   pub minutes : Option (List ℕ)
@@ -56,7 +56,7 @@ pub record IsSeconds (s : SecondsParts) : Type 0 where
   pub whole : IsNumber s.whole
   pub fraction : IfSome s.fraction IsFraction
 
--- something stands after `T`
+-- there is a part after `T`
 abbrev pub has_clock : ClockParts → Bool
 has_clock c = is_some c.hours || is_some c.minutes || is_some c.seconds
 
@@ -66,7 +66,7 @@ pub record IsClock (c : ClockParts) : Type 0 where
   pub seconds : IfSome c.seconds IsSeconds
   pub some : IsTrue (has_clock c)
 
--- something stands after `P`
+-- there is a part after `P`
 abbrev pub has_part : DurationParts → Bool
 has_part p = is_some p.years || is_some p.months || is_some p.days || is_some p.clock
 
@@ -84,7 +84,7 @@ pub record IsDurationText (text : List ℕ) (p : DurationParts) : Type 0 where
 
 -- ---- what it denotes
 
--- a part that isn't there counts for 0
+-- a missing part counts as 0
 abbrev pub count_of : Option (List ℕ) → ℕ
 count_of digits = unwrap_or (option_map number_of digits) 0
 
@@ -108,7 +108,7 @@ nanos_of p =
 abbrev pub extent_of : DurationParts → Extent
 extent_of p = record { months = months_of p; nanos = nanos_of p }
 
--- What a text denotes, and the one refusal of every other text.
+-- What a text denotes, and the one error of every other text.
 abbrev pub DenotesDuration : List ℕ → Result ℕ DurationFault → Type 0
 DenotesDuration text (Ok nanos) =
     (p : DurationParts) × IsDurationText text p × (months_of p ≡ 0) × (nanos_of p ≡ nanos) × (nanos < 10 ^ 19)
@@ -117,20 +117,20 @@ DenotesDuration text (Err Calendar) = (p : DurationParts) × IsDurationText text
 DenotesDuration text (Err Range) =
     (p : DurationParts) × IsDurationText text p × (months_of p ≡ 0) × (10 ^ 19 ≤ nanos_of p)
 
--- ---- the parts of a text, read from its front
+-- ---- the parts of a text, read from its start
 
--- a number with its letter, where the text begins so
+-- a number with its letter, where the text begins with those
 unfoldable pub part_at : ℕ → List ℕ → Option (List ℕ) × List ℕ
 part_at letter text = found_or_text (before_mark letter (leading_digits 1 20 text)) text
 
--- the seconds, where the whole text is that
+-- the seconds, where the whole text is of that form
 unfoldable pub seconds_of : List ℕ → Option SecondsParts
 seconds_of text = do
   whole ← leading_digits 1 20 text
   rest ← after_mark 83 (fraction_at whole.1).1
   value_at_end (record { whole = whole.0; fraction = (fraction_at whole.1).0 }) rest
 
--- `T` and the clock's parts, where the whole text is that
+-- `T` and the clock's parts, where the whole text is of that form
 unfoldable pub clock_of : List ℕ → Option ClockParts
 clock_of text = do
   rest ← after_mark 84 text
@@ -149,7 +149,7 @@ parts_of text = do
   clock ← optional_rest clock_of days.1
   value_if has_part (record { years = years.0; months = months.0; days = days.0; clock = clock })
 
--- first a refusal of months, then of the range
+-- months are rejected first, then what is out of range
 abbrev pub nanos_or_fault : Extent → Result ℕ DurationFault
 nanos_or_fault e =
     if e.months == 0 then (if nat_lt e.nanos (10 ^ 19) then Ok e.nanos else Err Range) else Err Calendar
@@ -161,7 +161,7 @@ answer_of p = nanos_or_fault (extent_of p)
 unfoldable pub duration_of : List ℕ → Result ℕ DurationFault
 duration_of text = option_map_or answer_of (parts_of text) (Err Shape)
 
--- ---- the text that is written
+-- ---- the written text
 
 abbrev pub is_empty : List ℕ → Bool
 is_empty [] = true
@@ -172,7 +172,7 @@ unfoldable pub without_zeros : List ℕ → List ℕ
 without_zeros [] = []
 without_zeros (d ∷ ds) = if (d == 48) && is_empty (without_zeros ds) then [] else d ∷ without_zeros ds
 
--- a point and the fraction's nine digits without zeros at their end, and nothing for 0
+-- a decimal point and the fraction's nine digits without trailing zeros, or nothing for 0
 abbrev pub nanos_text : ℕ → List ℕ
 nanos_text nanos = if nanos == 0 then [] else 46 ∷ without_zeros (padded_digits 9 nanos)
 

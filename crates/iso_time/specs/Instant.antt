@@ -1,4 +1,4 @@
--- Instants as XML Schema part 2, 3.2.7 writes them: `YYYY-MM-DDThh:mm:ss` with a fraction and an offset.
+-- Timestamps as XML Schema part 2, 3.2.7 writes them: `YYYY-MM-DDThh:mm:ss` with a fraction and an offset.
 use Rattle.std.specs.{Option.option_map_or, Prelude.{◌≡◌, ℕ, ◌+◌, ◌*◌, ◌^◌, ◌<◌, ◌≤◌, ◌==◌, ◌&&◌, not, nat_lt, nat_le, Bool, true, false}}
 use Rattle.std.specs.Prelude.{List, [], ◌∷◌, ◌++◌, Option, Some, None, option_map, unwrap_or, IfSome, Result, Ok, Err, if◌then◌else◌, ℤ}
 use Rattle.std.specs.Prelude.{pos, neg_ℤ, ◌+ℤ◌, ◌-ℤ◌, ◌*ℤ◌, ◌≤ℤ◌, ◌<ℤ◌, int_lt}
@@ -8,13 +8,13 @@ use Rattle.iso_time.specs.{declared.instant.Offset.Offset, declared.instant.Fiel
 use Rattle.iso_time.specs.Digits.{optional_text, fraction_text, ◌>>=◌, value_at_end, before_mark, after_mark, digits_at, fraction_at}
 use Rattle.iso_time.specs.Civil.{midnight}
 
--- what stands behind the time of day
+-- what follows the time of day
 pub data Zone : Type 0 where
   unstated : Zone
   utc : Zone
   shifted : (behind colon : Bool) (hours minutes : List ℕ) → Zone
 
--- the digits of a written instant
+-- the digits of a written timestamp
 pub record InstantParts : Type 0 where
   pub year : List ℕ
   pub month : List ℕ
@@ -38,7 +38,7 @@ parts_text p =
     p.year ++ 45 ∷ p.month ++ 45 ∷ p.day ++ 84 ∷ p.hour ++ 58 ∷ p.minute ++ 58 ∷ p.second
     ++ optional_text fraction_text p.fraction ++ zone_text p.zone
 
--- so many digits
+-- `width` digits
 abbrev pub IsField : ℕ → List ℕ → Type 0
 IsField width digits = AreDigits width width digits
 
@@ -83,7 +83,7 @@ fields_of p = record {
   offset = offset_of p.zone;
 }
 
--- the numbers of so many digits
+-- each number fits its digits
 pub record AreShort (f : Fields) : Type 0 where
   pub year : f.year < 10_000
   pub month : f.month < 100
@@ -93,7 +93,7 @@ pub record AreShort (f : Fields) : Type 0 where
   pub second : f.second < 100
   pub nanos : f.nanos < 10 ^ 9
 
--- the calendar has the date, and a clock shows the time
+-- the date and the time of day exist
 abbrev pub IsCivil : Fields → Type 0
 IsCivil f =
     IsDate (pos f.year) (pos f.month) (pos f.day)
@@ -103,19 +103,19 @@ IsCivil f =
 abbrev pub IsOffset : Offset → Type 0
 IsOffset o = (o.hours ≤ 14) × (o.minutes ≤ 59)
 
--- nanoseconds from 1970-01-01T00:00:00 on the same clock
+-- nanoseconds since the local 1970-01-01T00:00:00
 abbrev pub civil_nanos : Fields → ℤ
 civil_nanos f =
     midnight f.year f.month f.day
     +ℤ pos ((f.hour * 3600 + f.minute * 60 + f.second) * 10 ^ 9 + f.nanos)
 
--- how far a clock at the offset is ahead of UTC
+-- the seconds that the offset is ahead of UTC
 abbrev pub seconds_ahead : Offset → ℤ
 seconds_ahead o =
     let seconds = pos (o.hours * 3600 + o.minutes * 60) in
     if o.behind then neg_ℤ seconds else seconds
 
--- nanoseconds from 1970-01-01T00:00:00Z: those of the clock, less those that it is ahead
+-- nanoseconds since 1970-01-01T00:00:00Z: those of the local time, less those that it is ahead
 abbrev pub instant_nanos : Fields → ℤ
 instant_nanos f = civil_nanos f -ℤ seconds_ahead f.offset *ℤ pos (10 ^ 9)
 
@@ -133,7 +133,7 @@ IsWritable nanos =
 abbrev pub Exists : Fields → Type 0
 Exists f = IsCivil f × IsOffset f.offset
 
--- What a text denotes, and the one refusal of every other text.
+-- What a text denotes, and the one error of every other text.
 abbrev pub DenotesInstant : List ℕ → Result ℤ InstantFault → Type 0
 DenotesInstant text (Ok nanos) =
     (p : InstantParts) × IsInstantText text p × Exists (fields_of p) × (instant_nanos (fields_of p) ≡ nanos) × IsReadable nanos
@@ -142,9 +142,9 @@ DenotesInstant text (Err Date) = (p : InstantParts) × IsInstantText text p × (
 DenotesInstant text (Err Range) =
     (p : InstantParts) × IsInstantText text p × Exists (fields_of p) × (¬ (IsReadable (instant_nanos (fields_of p))))
 
--- ---- the parts of a text, read from its front
+-- ---- the parts of a text, read from its start
 
--- whether there is a `:` at the front, and what follows it
+-- whether the text begins with a `:`, and what follows it
 abbrev pub colon_or_text : List ℕ → Option (List ℕ) → Bool × List ℕ
 colon_or_text text None = (false, text)
 colon_or_text text (Some rest) = (true, rest)
@@ -152,21 +152,21 @@ colon_or_text text (Some rest) = (true, rest)
 abbrev pub colon_at : List ℕ → Bool × List ℕ
 colon_at text = colon_or_text text (after_mark 58 text)
 
--- `hh:mm` or `hhmm`, where the whole text is that
+-- `hh:mm` or `hhmm`, where the whole text is of that form
 unfoldable pub shift_of : Bool → List ℕ → Option Zone
 shift_of behind text = do
   hours ← digits_at 2 text
   minutes ← digits_at 2 (colon_at hours.1).1
   value_at_end (shifted behind (colon_at hours.1).0 hours.0 minutes.0) minutes.1
 
--- what stands behind the time, where the whole text is that
+-- what follows the time, where the whole text is of that form
 unfoldable pub zone_of : List ℕ → Option Zone
 zone_of [] = Some unstated
 zone_of (c ∷ rest) =
     if c == 90 then value_at_end utc rest
     else (if c == 43 then shift_of false rest else (if c == 45 then shift_of true rest else None))
 
--- the parts of an instant's text
+-- the parts of a timestamp's text
 unfoldable pub parts_of : List ℕ → Option InstantParts
 parts_of text = do
   year ← before_mark 45 (digits_at 4 text)
@@ -207,11 +207,11 @@ is_readable nanos =
 abbrev pub instant_or_fault : ℤ → Result ℤ InstantFault
 instant_or_fault nanos = if is_readable nanos then Ok nanos else Err Range
 
--- what the numbers denote: first a refusal of what doesn't exist, then of the range
+-- what the numbers denote: what doesn't exist is rejected first, then what is out of range
 abbrev pub answer_of : Fields → Result ℤ InstantFault
 answer_of f =
     if is_civil f && is_offset f.offset then instant_or_fault (instant_nanos f) else Err Date
 
--- the instant that a text denotes, or why it denotes none
+-- the timestamp that a text denotes, or why it denotes none
 unfoldable pub instant_of : List ℕ → Result ℤ InstantFault
 instant_of text = option_map_or (λ p. answer_of (fields_of p)) (parts_of text) (Err Shape)

@@ -7,7 +7,7 @@ use Rattle.iso_time.specs.{Duration.duration_text, Instant.{InstantParts, IsInst
 use Rattle.iso_time.specs.Civil.{instant_text, midnight, year_of, month_of, day_of}
 use Rattle.jiff_core.specs.Calendar.{IsDate, days_from_civil}
 
--- no text is a duration or an instant in two ways
+-- no text is a duration or a timestamp in two ways
 abbrev pub DurationsHaveOneSpelling : Type 0
 DurationsHaveOneSpelling =
     (text : List ℕ) (p q : DurationParts) → IsDurationText text p → IsDurationText text q → p ≡ q
@@ -16,12 +16,12 @@ abbrev pub InstantsHaveOneSpelling : Type 0
 InstantsHaveOneSpelling =
     (text : List ℕ) (p q : InstantParts) → IsInstantText text p → IsInstantText text q → p ≡ q
 
--- the digits behind a point write their fraction of a second, rounded down to nanoseconds
+-- the digits after a decimal point are read as their fraction of a second, rounded down to nanoseconds
 abbrev pub FractionsAreRoundedDown : Type 0
 FractionsAreRoundedDown =
     (digits : List ℕ) → AreDigits 1 30 digits → fraction_nanos digits ≡ number_of digits * 10 ^ 9 / 10 ^ length digits
 
--- what is read of a text is what the text denotes, and nothing else
+-- a text is read as what it denotes, and as nothing else
 abbrev pub DurationsAreDenoted : Type 0
 DurationsAreDenoted =
     (text : List ℕ) (answer : Result ℕ DurationFault) → (duration_of text ≡ answer) ↔ DenotesDuration text answer
@@ -30,15 +30,15 @@ abbrev pub InstantsAreDenoted : Type 0
 InstantsAreDenoted =
     (text : List ℕ) (answer : Result ℤ InstantFault) → (instant_of text ≡ answer) ↔ DenotesInstant text answer
 
--- a written duration is read again as it was
+-- a written duration is read back unchanged
 abbrev pub DurationsAreReadAgain : Type 0
 DurationsAreReadAgain = (nanos : ℕ) → nanos < 10 ^ 19 → duration_of (duration_text nanos) ≡ Ok nanos
 
--- an instant rounded down to milliseconds
+-- a timestamp rounded down to milliseconds
 abbrev pub floor_millis : ℤ → ℤ
 floor_millis nanos = int_div_euclid nanos (pos 1_000_000) *ℤ pos 1_000_000
 
--- and a written instant so
+-- and a written timestamp is read back rounded down
 abbrev pub InstantsAreReadAgain : Type 0
 InstantsAreReadAgain = (nanos : ℤ) → IsReadable nanos → instant_of (instant_text nanos) ≡ Ok (floor_millis nanos)
 

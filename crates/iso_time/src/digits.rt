@@ -1,4 +1,4 @@
-//! Runs of ASCII digits. A reader takes the front of a text, and gives what it found and the rest.
+//! Runs of ASCII digits. A reader takes a prefix of a text, and returns what it found and the rest.
 ghost use Rattle.std.specs.Prelude.{ℕ, ◌≡◌, ◌+◌, ◌/◌, ◌%◌, ◌^◌, ◌<◌, ◌≤◌, IsTrue, length, take, IfSome, option_map, unwrap_or};
 ghost use Rattle.std.specs.List.{prefix_len};
 ghost use Rattle.std.specs.Char.{is_ascii_digit};
@@ -57,7 +57,7 @@ fn are_digits(bytes: &[u8]) -> bool
     bytes.iter().all(|byte| byte.is_ascii_digit())
 }
 
-/// The number of so many digits at the front, at most four.
+/// The number of the first `width` digits, at most four.
 #[tactic(auto, unfolding(crate::specs::Digits::digits_at))]
 pub(crate) fn field(text: &[u8], width: usize) -> Option<(u16, &[u8])>
     requires { width ≤ 4 }
@@ -72,7 +72,7 @@ pub(crate) fn field(text: &[u8], width: usize) -> Option<(u16, &[u8])>
     Some((number(digits) as u16, rest))
 }
 
-/// The text behind the byte that it begins with.
+/// The text after its first byte, where that is `mark`.
 #[tactic(auto, unfolding(crate::specs::Digits::after_mark))]
 pub(crate) fn after(text: &[u8], mark: u8) -> Option<&[u8]>
     ensures { option_map (λ rest. rest.now) result ≡ spec.after_mark mark text.now }
@@ -83,7 +83,7 @@ pub(crate) fn after(text: &[u8], mark: u8) -> Option<&[u8]>
     }
 }
 
-/// The nanoseconds of a point and one to thirty digits, or 0 where the text doesn't begin so.
+/// The nanoseconds of a decimal point and one to thirty digits, or 0 where the text doesn't begin with those.
 #[tactic(auto, unfolding(crate::specs::Digits::fraction_at))]
 pub(crate) fn fraction(text: &[u8]) -> (u32, &[u8])
     ensures nanos { result.0
@@ -100,7 +100,7 @@ pub(crate) fn fraction(text: &[u8]) -> (u32, &[u8])
     (leading_nanos(digits), rest)
 }
 
-/// The nanoseconds that the digits behind a point write: the first nine, and 0 for each that lacks.
+/// The nanoseconds that the digits after a decimal point write: the first nine, and 0 for each missing one.
 fn leading_nanos(digits: &[u8]) -> u32
     requires { spec.AreDigits 0 30 digits.now }
     ensures value { result ≡ spec.fraction_nanos digits.now }
@@ -111,7 +111,7 @@ fn leading_nanos(digits: &[u8]) -> u32
     nanos as u32
 }
 
-/// The ASCII digit of a number at a place, counted from 0 for the last.
+/// The ASCII digit of a number at a decimal place, counted from 0 for the last.
 pub(crate) fn digit(number: u32, place: u32) -> u8
     requires { place ≤ 9 }
     ensures { result ≡ 48 + number / 10 ^ place % 10 }

@@ -11,7 +11,7 @@ use exact_time::Nanos;
 use std::marker::Model;
 use thiserror::Error;
 
-/// Why a text denotes no duration. The first that holds is told.
+/// Why a text denotes no duration. The first variant that holds is returned.
 #[derive(Clone, Copy, PartialEq, Eq, Debug, Error)]
 pub enum DurationFault {
     /// It isn't written as a duration.
@@ -25,14 +25,14 @@ pub enum DurationFault {
     Range,
 }
 
-/// A length of time: its months, which no number of days makes up, and the rest.
+/// A length of time: its months, which have no fixed number of days, and the rest.
 #[derive(Drop)]
 struct Extent {
     months: u128,
     nanos: u128,
 }
 
-/// A number with its letter, and the rest; nothing where the text doesn't begin so.
+/// A number with its letter, and the rest; `None` where the text doesn't begin with those.
 #[tactic(auto, unfolding(crate::specs::Duration::part_at))]
 fn part(text: &[u8], letter: u8) -> (Option<u128>, &[u8])
     ensures number { result.0 ≡ option_map number_of (spec.part_at letter text.now).0 }
@@ -48,7 +48,7 @@ fn part(text: &[u8], letter: u8) -> (Option<u128>, &[u8])
     }
 }
 
-/// The nanoseconds of `n[.f]S`, where the whole text is that.
+/// The nanoseconds of `n[.f]S`, where the whole text is of that form.
 #[tactic(auto, unfolding(crate::specs::Duration::seconds_of))]
 fn seconds(text: &[u8]) -> Option<u128>
     ensures value { result ≡ option_map spec.seconds_nanos (spec.seconds_of text.now) }
@@ -63,7 +63,7 @@ fn seconds(text: &[u8]) -> Option<u128>
     Some(whole * 1_000_000_000 + nanos as u128)
 }
 
-/// The same, or nothing for an empty text.
+/// The same, or `Some(None)` for an empty text.
 fn seconds_if_any(text: &[u8]) -> Option<Option<u128>>
     ensures value { result
         ≡ option_map (option_map spec.seconds_nanos) (optional_rest spec.seconds_of text.now) }
@@ -75,7 +75,7 @@ fn seconds_if_any(text: &[u8]) -> Option<Option<u128>>
     Some(Some(seconds(text)?))
 }
 
-/// The nanoseconds of `T[nH][nM][n[.f]S]`, where the whole text is that.
+/// The nanoseconds of `T[nH][nM][n[.f]S]`, where the whole text is of that form.
 #[tactic(auto, unfolding(crate::specs::Duration::clock_of))]
 fn clock(text: &[u8]) -> Option<u128>
     ensures value { result ≡ option_map spec.clock_nanos (spec.clock_of text.now) }
@@ -92,7 +92,7 @@ fn clock(text: &[u8]) -> Option<u128>
     Some(whole * 1_000_000_000 + seconds.unwrap_or(0))
 }
 
-/// The same, or nothing for an empty text.
+/// The same, or `Some(None)` for an empty text.
 fn clock_if_any(text: &[u8]) -> Option<Option<u128>>
     ensures value { result
         ≡ option_map (option_map spec.clock_nanos) (optional_rest spec.clock_of text.now) }
@@ -138,12 +138,12 @@ impl Extent {
     }
 }
 
-/// Reads a duration: `P[nY][nM][nD][T[nH][nM][n[.f]S]]` with at least one part, and at least one
-/// behind a `T`. Each n has 1 to 20 digits and f 1 to 30, of which the first nine count.
+/// Reads a duration: `P[nY][nM][nD][T[nH][nM][n[.f]S]]` with at least one part, and at least one after a `T`. Each n
+/// has 1 to 20 digits, and f 1 to 30, of which the first nine count.
 #[tactic(auto, unfolding(crate::specs::Duration::duration_of))]
 pub fn read_duration(text: &str) -> Result<Nanos, DurationFault>
     ensures answer { result ≡ spec.duration_of text.now }
-    // It is what the text denotes: the value, or the refusal that holds, and nothing else.
+    // It is what the text denotes: the value, or the error that applies, and nothing else.
     ensures exactly { (answer : Result ℕ DurationFault) →
         (result ≡ answer) ↔ spec.DenotesDuration text.now answer }
 {
@@ -179,7 +179,7 @@ impl DurationText {
     }
 }
 
-/// Adds a point and the digits of a fraction up to the last that isn't 0, and nothing for 0.
+/// Appends a decimal point and the digits of a fraction up to the last that isn't 0, or nothing for 0.
 fn push_fraction(text: &mut ArrayString<MAX_LEN>, nanos: u32)
     requires fraction { nanos < 10 ^ 9 }
     requires room { array_string_len text.old ≤ 12 }
@@ -198,8 +198,8 @@ fn push_fraction(text: &mut ArrayString<MAX_LEN>, nanos: u32)
     }
 }
 
-/// Writes a duration: `PT`, the whole seconds, a point and the fraction up to its last digit that
-/// isn't 0 where there is a fraction, and `S`.
+/// Writes a duration: `PT`, the whole seconds, a decimal point and the fraction up to its last digit that isn't 0
+/// where there is a fraction, and `S`.
 #[tactic(auto, unfolding(crate::specs::Duration::duration_text))]
 pub fn write_duration(value: Nanos) -> DurationText
     ensures { result ≡ spec.duration_text value }

@@ -1,4 +1,4 @@
-//! Instants: XML Schema part 2, 3.2.7.
+//! Timestamps: XML Schema part 2, 3.2.7.
 ghost use Rattle.std.specs.Prelude.{ℤ, Result, ◌↔◌, ◌≡◌, ◌^◌, ◌<◌, ◌≤◌, pos, ◌≤ℤ◌, IfOk, IfSome, option_map};
 ghost use Rattle.std.specs.Option.{SomeIff};
 ghost use Rattle.std.specs.Str.{IsAscii};
@@ -16,7 +16,7 @@ use jiff_core::civil;
 use std::marker::Model;
 use thiserror::Error;
 
-/// An instant: nanoseconds since 1970-01-01T00:00:00Z, less than 10^21 from it.
+/// A timestamp: nanoseconds since 1970-01-01T00:00:00Z, less than 10^21 from it.
 ///
 /// In a contract an `Instant` is that number.
 #[derive(Clone, Copy, PartialEq, Eq, PartialOrd, Ord, Debug)]
@@ -34,7 +34,7 @@ impl Model for Instant {
     ghost inverse = { λ z. record { 0 = z } };
 }
 
-/// Why a text denotes no instant. The first that holds is told.
+/// Why a text denotes no timestamp. The first variant that holds is returned.
 #[derive(Clone, Copy, PartialEq, Eq, Debug, Error)]
 pub enum InstantFault {
     /// It isn't written as a date and a time.
@@ -54,7 +54,7 @@ const FIRST: i128 = -12_212_553_600_000_000_000;
 /// 3000-01-01T00:00:00Z.
 const END: i128 = 32_503_680_000_000_000_000;
 
-/// The instant of so many nanoseconds, where it is in range.
+/// The timestamp of a number of nanoseconds, where it is in range.
 fn checked_instant(nanos: i128) -> Result<Instant, InstantFault>
     ensures { result ≡ spec.instant_or_fault nanos }
 {
@@ -64,7 +64,7 @@ fn checked_instant(nanos: i128) -> Result<Instant, InstantFault>
     Ok(Instant(nanos))
 }
 
-/// How far a clock is from UTC.
+/// An offset from UTC.
 #[derive(Drop)]
 struct Offset {
     behind: bool,
@@ -72,7 +72,7 @@ struct Offset {
     minutes: u16,
 }
 
-/// The numbers of a written instant.
+/// The numbers of a written timestamp.
 #[derive(Drop)]
 struct Fields {
     year: u16,
@@ -85,7 +85,7 @@ struct Fields {
     offset: Offset,
 }
 
-/// A number of so many digits with a mark behind it, and the rest.
+/// A number of `width` digits followed by a mark, and the rest.
 fn marked_field(text: &[u8], width: usize, mark: u8) -> Option<(u16, &[u8])>
     requires { width ≤ 4 }
     ensures found { option_map (λ p. (p.0, p.1.now)) result
@@ -97,7 +97,7 @@ fn marked_field(text: &[u8], width: usize, mark: u8) -> Option<(u16, &[u8])>
     Some((number, rest))
 }
 
-/// What follows a `:`, or the whole text where it doesn't begin with one.
+/// What follows a leading `:`, or the whole text where there is none.
 fn past_colon(text: &[u8]) -> &[u8]
     ensures { result.now ≡ (spec.colon_at text.now).1 }
 {
@@ -115,7 +115,7 @@ impl Offset {
         minutes: 0,
     };
 
-    /// `hh:mm` or `hhmm`, where the whole text is that.
+    /// `hh:mm` or `hhmm`, where the whole text is of that form.
     #[tactic(auto, unfolding(crate::specs::Instant::shift_of))]
     fn shift(text: &[u8], behind: bool) -> Option<Offset>
         ensures { result ≡ option_map spec.offset_of (spec.shift_of behind text.now) }
@@ -132,7 +132,7 @@ impl Offset {
         })
     }
 
-    /// `Z`, `+hh:mm`, `-hh:mm`, `+hhmm`, `-hhmm` or nothing, where the whole text is that.
+    /// `Z`, `+hh:mm`, `-hh:mm`, `+hhmm`, `-hhmm` or nothing, where the whole text is of that form.
     #[tactic(auto, unfolding(crate::specs::Instant::zone_of))]
     fn of(text: &[u8]) -> Option<Offset>
         ensures { result ≡ option_map spec.offset_of (spec.zone_of text.now) }
@@ -145,7 +145,7 @@ impl Offset {
         }
     }
 
-    /// The seconds that a clock is ahead of UTC, where the offset exists.
+    /// The seconds ahead of UTC, where the offset is valid.
     fn seconds(&self) -> Option<i32>
         ensures value { SomeIff result (spec.IsOffset self.now) (spec.seconds_ahead self.now) }
         ensures bound { IfSome result (IsWithin 53_940) }
@@ -159,7 +159,7 @@ impl Offset {
 }
 
 impl Fields {
-    /// The numbers of a text, where it is written as an instant.
+    /// The numbers of a text, where it is written as a timestamp.
     #[tactic(auto, unfolding(crate::specs::Instant::parts_of))]
     fn of(text: &[u8]) -> Option<Fields>
         ensures found { result ≡ option_map spec.fields_of (spec.parts_of text.now) }
@@ -185,8 +185,7 @@ impl Fields {
         })
     }
 
-    /// What the clock shows, in nanoseconds from 1970-01-01T00:00:00 of that clock, where the
-    /// calendar has the date and a clock shows the time.
+    /// The local time, in nanoseconds since the local 1970-01-01T00:00:00, where the date and the time of day exist.
     fn civil_nanos(&self) -> Option<i128>
         requires { spec.AreShort self.now }
         ensures value { SomeIff result (spec.IsCivil self.now) (spec.civil_nanos self.now) }
@@ -207,7 +206,7 @@ impl Fields {
         }
     }
 
-    /// The instant, or why there is none.
+    /// The timestamp, or why there is none.
     fn instant(&self) -> Result<Instant, InstantFault>
         requires { spec.AreShort self.now }
         ensures { result ≡ spec.answer_of self.now }
@@ -222,12 +221,12 @@ impl Fields {
     }
 }
 
-/// Reads an instant: `YYYY-MM-DDThh:mm:ss[.f]`, and then `Z`, `+hh:mm`, `-hh:mm`, `+hhmm`,
-/// `-hhmm` or nothing, which is read as UTC. Digits of the fraction after the ninth are dropped.
+/// Reads a timestamp: `YYYY-MM-DDThh:mm:ss[.f]`, and then `Z`, `+hh:mm`, `-hh:mm`, `+hhmm`, `-hhmm` or nothing, which
+/// is read as UTC. Digits of the fraction after the ninth are dropped.
 #[tactic(auto, unfolding(crate::specs::Instant::instant_of))]
 pub fn read_instant(text: &str) -> Result<Instant, InstantFault>
     ensures answer { result ≡ spec.instant_of text.now }
-    // It is what the text denotes: the value, or the refusal that holds, and nothing else.
+    // It is what the text denotes: the value, or the error that applies, and nothing else.
     ensures exactly { (answer : Result ℤ InstantFault) →
         (result ≡ answer) ↔ spec.DenotesInstant text.now answer }
     ensures readable { IfOk result spec.IsReadable }
@@ -277,8 +276,7 @@ fn text_of(moment: civil::DateTime) -> [u8; 24]
     ]
 }
 
-/// Writes an instant of the years 1000 to 9999 as `YYYY-MM-DDThh:mm:ss.mmmZ`, rounded down to
-/// milliseconds.
+/// Writes a timestamp of the years 1000 to 9999 as `YYYY-MM-DDThh:mm:ss.mmmZ`, rounded down to milliseconds.
 pub fn write_instant_ms(value: Instant) -> [u8; 24]
     requires { spec.IsWritable value }
     ensures text { result ≡ instant_text value }

@@ -1,7 +1,7 @@
-//! Durations and instants as manifests write them: `xs:duration` and `xs:dateTime` of XML Schema
-//! part 2, read to whole nanoseconds and written again.
+//! Durations and timestamps as manifests write them: `xs:duration` and `xs:dateTime` of XML Schema part 2, read to
+//! whole nanoseconds, and written.
 //!
-//! Nothing here allocates, and every call answers on every argument that its conditions allow.
+//! Nothing here allocates, and every call returns for every argument that its contract allows.
 #![tactic(auto)]
 
 mod digits;

@@ -1,4 +1,4 @@
--- How many segments a run makes that follows an MPD.
+-- How many segments a run of `follow` makes.
 use Rattle.bridge_io.specs.declared.outside.Fail.TheVariants as fail
 use Rattle.bridge_courses.specs.declared.ending.Ending.TheVariants as ending
 use Rattle.std.specs.Prelude.{◌⊎◌, ◌≤◌, ℕ, suc, ◌+◌, List, [], ◌∷◌, length, take, Option, None}
@@ -12,44 +12,45 @@ use Rattle.bridge_playlists.specs.declared.place.StorePlace.{StorePlace}
 use Rattle.live_meaning.specs.States.{State}
 use Rattle.laws_of_jobs.specs.Histories.{IsFollowing, followed_at, frames_in}
 
--- ---- of some frames
+-- ---- for some frames
 
 -- the sum of the numbers in the lines of the accepted ones
 abbrev pub appended_along : {S X : Type 0} → Followed S X → S → List X → ℕ
 appended_along f s [] = 0
 appended_along f s (x ∷ xs) = unless_refused (f.refusal s x) (f.appended s x) 0 + appended_along f (next_of f s x) xs
 
--- how many segments the refused ones were to append of which a segment's address was refused
+-- how many segments those rejected frames were to append for which a segment's URL was rejected
 abbrev pub refused_along : {S X : Type 0} → Followed S X → S → List X → ℕ
 refused_along f s [] = 0
 refused_along f s (x ∷ xs) = unless_refused (f.refusal s x) 0 (f.makes s x) + refused_along f (next_of f s x) xs
 
--- of the first n frames of an input
+-- for the first n frames of an input
 abbrev pub appended_to : Followed (Option State) Frame → (n : ℕ) (input : List ℕ) → ℕ
 appended_to f n input = appended_along f None (take n (frames_in input))
 
 abbrev pub refused_to : Followed (Option State) Frame → (n : ℕ) (input : List ℕ) → ℕ
 refused_to f n input = refused_along f None (take n (frames_in input))
 
--- All segments that the accepted ones of the first n frames append were made, and of each refused one some at most.
+-- All segments that the accepted ones of the first n frames append were made, and at most some of each rejected one.
 pub record MadeOf (f : Followed (Option State) Frame) (n : ℕ) (input : List ℕ) (before after : ℕ) : Type 0 where
   pub least : before + appended_to f n input ≤ after
   pub most : after ≤ before + appended_to f n input + refused_to f n input
 
--- and of the frame behind them some at most, or all
+-- and at most some of the frame after them, or all
 pub record MadeBeyond (f : Followed (Option State) Frame) (n : ℕ) (input : List ℕ) (before after : ℕ) : Type 0 where
   pub least : before + appended_to f n input ≤ after
   pub most : after ≤ before + appended_to f (suc n) input + refused_to f (suc n) input
 
--- ---- of a run
+-- ---- for a run
 
--- want of memory in a frame of which no file is begun, or in one of which some are
+-- out of memory in a frame of which no file is begun, or in one of which some are
 abbrev pub MadeWanting : {A B : Type 0} → A ⊎ B → Followed (Option State) Frame → (n : ℕ) (input : List ℕ) (before after : ℕ) → Type 0
 MadeWanting (inl none) f n input before after = MadeBeyond f n input before after
 MadeWanting (inr some) f n input before after = MadeOf f (suc n) input before after
 
--- So many segments were made, by how the work ended. The first frames' lines are told, as many as the run reached. Where the
--- store failed in the files of the next one, or the sink in its line, that one counts too; a read that failed is of none.
+-- How many segments were made, by how the work ended. The lines of the first frames are reported, as far as the run reached.
+-- Where the store failed in the files of the next one, or the sink in its line, that one counts, too; a failed read counts
+-- for none.
 abbrev pub MadeBy : Followed (Option State) Frame → (input : List ℕ) (course : Course) (told : Ending) (before mid : World)
     → Works course told before mid → (made : ℕ) → Type 0
 MadeBy f input course (ending.Ended v line) before mid works made = MadeOf f (length (frames_in input)) input before.made made

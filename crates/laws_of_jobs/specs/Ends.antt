@@ -1,4 +1,4 @@
--- The files that a run leaves which follows something, however it ends.
+-- The files after a run that follows something, however it ends.
 use Rattle.bridge_courses.specs.declared.status.Status.TheVariants as status
 use Rattle.std.specs.Prelude.{◌≡◌, ◌⊎◌, ℕ, List, [], ◌∷◌, ◌++◌, length, slice_get, Some}
 use Rattle.bridge_io.specs.{InOrder.{put_all, AreBegun}, Outside.{Files, Changes}}
@@ -8,13 +8,13 @@ use Rattle.bridge_courses.specs.{declared.status.Status.Status, declared.status.
 use Rattle.bridge_playlists.specs.declared.place.StorePlace.{StorePlace}
 use Rattle.laws_of_jobs.specs.{Histories.{IsFollowing, frames_in}, Files.HoldsHistory}
 
--- ---- what a course leaves
+-- ---- the files after a course
 
--- what is so of the files behind the first n steps, over the files that were there
+-- what holds for the files after the first n steps, given the files before
 abbrev pub Held : Type 1
 Held = (n : ℕ) → (first mid : Files) → Type 0
 
--- these are such files
+-- the files satisfy it
 pub record AreOfSteps (Holds : Held) (course : Course) (n : ℕ) (first mid : Files) : Type 0 where
   pub done : Changes (put_all (files_to n course)) (Some first) (Some mid)
   pub holds : Holds n first mid
@@ -28,14 +28,14 @@ pub record LeavesSteps (Holds : Held) (course : Course) (first last : Files) : T
   pub next : slice_get (course.steps ++ last_step course.end ∷ []) n ≡ Some step
   pub left : (last ≡ mid) ⊎ (AreBegun step.files (Some mid) (Some last) ⊎ Changes (put_all step.files) (Some mid) (Some last))
 
--- a run over these files, that leaves those
+-- a run from these files to those
 pub record IsRunOver (course : Course) (end : Status) (before after : World) (first last : Files) : Type 0 where
   pub run : IsExecution course end before after
   pub was : before.files ≡ Some first
   pub is : after.files ≡ Some last
 
--- However a run ends, it leaves some steps; where it is done, or its stream is refused, all of so many; and where a read failed, some
--- first ones alone.
+-- However a run ends, it leaves the files of some steps; where it succeeds, or its stream is rejected, of all `steps`; and where a
+-- read failed, only of some first ones.
 pub record Leaves (Holds : Held) (steps : ℕ) (course : Course) : Type 0 where
   pub ends : (end : Status) (before after : World) (first last : Files) → IsRunOver course end before after first last
       → LeavesSteps Holds course first last

@@ -13,11 +13,11 @@ use Rattle.laws_of_jobs.specs.Histories.{IsFollowing, followed_at, frames_in, hi
 
 -- ---- after some frames
 
--- what the names of the files begin with
+-- the prefix of the files' names
 abbrev pub prefix_of : FollowJob → List ℕ
 prefix_of job = job.out ++ 47 ∷ []
 
--- none of the first n frames is accepted, or the files are those of what the whole accepted history leaves
+-- none of the first n frames is accepted, or the files are those of the state after the whole accepted history
 abbrev pub HoldsHistory : FollowJob → StorePlace → (n : ℕ) (input : List ℕ) → Files → Type 0
 HoldsHistory job place n input files =
     (history_to (terms_at job place) n input ≡ [])
@@ -30,9 +30,9 @@ FollowedFilesAreOfTheHistory =
     → IsFollowing words job place input course
     → Changes (put_all (files_to n course)) (Some first) (Some last) → HoldsHistory job place n input last
 
--- ---- reloads
+-- ---- playlist updates
 
--- a file's new text is read as a playlist that may take the place of the one that its former text is read as
+-- a file's new text is read as a valid update of the playlist that its previous text is read as
 pub record FileReloads (name url : List ℕ) (before after : Files) : Type 0 where
   pub old : List ℕ
   pub new : List ℕ
@@ -40,14 +40,14 @@ pub record FileReloads (name url : List ℕ) (before after : Files) : Type 0 whe
   pub is : after name ≡ Some new
   pub reloads : Reloads old new url
 
--- some of the first n frames was accepted, and the one behind them is too
+-- at least one of the first n frames was accepted, and so is the one after them
 pub record IsAnother (job : FollowJob) (place : StorePlace) (n : ℕ) (input : List ℕ) (s : State) : Type 0 where
   pub leaves : state_to (terms_at job place) n input ≡ Some s
   pub frame : Frame
   pub next : slice_get (frames_in input) n ≡ Some frame
   pub accepted : (followed_at job place).refusal (Some s) frame ≡ None
 
--- From the second accepted frame on each track's file lawfully reloads the one before, wherever they are got from.
+-- From the second accepted frame on, each track's file is a valid update of the one before, whatever their URL.
 abbrev pub FollowedFilesReload : Type 0
 FollowedFilesReload =
     (words : List (List ℕ)) (job : FollowJob) (place : StorePlace) (input : List ℕ) (course : Course) (n : ℕ) (first before after : Files)

@@ -1,4 +1,4 @@
--- What is read of the MPD that rounds of playlists leave.
+-- What the MPD after snapshots of playlists is read as.
 use Rattle.std.specs.{Prelude.{◌≡◌, ℕ, List, map, All, Some, None, option_map, Ok}, Result.result_ok}
 use Rattle.iso_time.specs.Instant.{IsReadable}
 use Rattle.mpd_tree.specs.Meaning.{reading_of}
@@ -8,12 +8,12 @@ use Rattle.dash_writer.specs.Live.{live_text}
 use Rattle.hls_follow.specs.{declared.state.Followed.Followed, Histories.{AreAccepted, Playlists}}
 use Rattle.laws_of_mpds.specs.{Live.{IsReadableMpd, live_shown}, Shown.shown_of, Written.HaveAddresses}
 
--- A round at an instant that can be read, whose playlists have addresses as those that are read.
+-- A snapshot with a timestamp that can be read, whose playlists have URLs as those that were read.
 pub record IsReadRound (round : Playlists) : Type 0 where
   pub instant : IsReadable round.0
   pub addresses : All HaveAddresses round.1
 
--- A master was read, and rounds were accepted one behind another, of which the first one had none before it.
+-- A master playlist was read, and snapshots were accepted one after another, from the first one.
 pub record AreFollowed (master url : List ℕ) (tracks : List MasterTrack) (rounds : List Playlists) (new : Followed) : Type 0 where
   pub read : master_of master url ≡ Ok (map track_seen tracks)
   pub accepted : AreAccepted tracks None rounds new
@@ -23,7 +23,7 @@ abbrev pub FollowedCanBeRead : Type 0
 FollowedCanBeRead = (master url : List ℕ) (tracks : List MasterTrack) (rounds : List Playlists) (new : Followed)
     → AreFollowed master url tracks rounds new → IsReadableMpd new.mpd
 
--- The text says what the MPD says, whatever may be played at an instant.
+-- The text is read back with the values of the MPD, whatever is available at a time.
 abbrev pub FollowedAreRead : Type 0
 FollowedAreRead = (master url : List ℕ) (tracks : List MasterTrack) (rounds : List Playlists) (new : Followed)
     → AreFollowed master url tracks rounds new

@@ -1,4 +1,4 @@
--- The frames of a followed MPD, each behind the whole history.
+-- The update frames of a followed MPD, each after the whole history.
 use Rattle.std.specs.Prelude.{◌≡◌, ℕ, List, slice_get, Some}
 use Rattle.bridge_jobs.specs.declared.frame.Frame.{Frame}
 use Rattle.bridge_jobs.specs.declared.jobs.FollowJob.{FollowJob}
@@ -8,8 +8,8 @@ use Rattle.bridge_playlists.specs.declared.place.StorePlace.{StorePlace}
 use Rattle.bridge_core.specs.Follow.{terms_at}
 use Rattle.laws_of_jobs.specs.Histories.{IsFollowing, followed_at, frames_in, state_to}
 
--- The step of each frame is that of what the whole accepted history before it left: by that the frame is refused, written, told and
--- counted.
+-- The step of each frame depends on the state after the whole accepted history before it: by that the frame is rejected, written,
+-- reported and counted.
 abbrev pub FramesAreOfTheHistory : Type 0
 FramesAreOfTheHistory = (words : List (List ℕ)) (job : FollowJob) (place : StorePlace) (input : List ℕ) (course : Course) (n : ℕ)
     (x : Frame)

@@ -13,7 +13,7 @@ use Rattle.bridge_core.specs.{Courses.course_of, Follow.terms_at}
 
 -- ---- what is followed
 
--- These words ask to follow the MPD at this place, and over this input that is this course.
+-- This command line asks to follow the MPD at this location, with this course for this input.
 pub record IsFollowing (words : List (List ℕ)) (job : FollowJob) (place : StorePlace) (input : List ℕ) (course : Course) : Type 0 where
   pub asks : job_of words ≡ Some (jobs.Follow job)
   pub at : store_place_of job.base job.name ≡ Some place
@@ -29,7 +29,7 @@ followed_at job place = followed_mpd (terms_at job place) job.out
 abbrev pub frames_in : (input : List ℕ) → List Frame
 frames_in input = (frames_of input).frames
 
--- the updates that frames are; one whose bytes are no MPD is none
+-- the updates of frames; a frame whose bytes aren't an MPD is dropped
 abbrev pub updates_of : List Frame → List Update
 updates_of frames = flat_map (λ x. option_to_list (result_ok (update_of x))) frames
 
@@ -37,17 +37,17 @@ updates_of frames = flat_map (λ x. option_to_list (result_ok (update_of x))) fr
 abbrev pub updates_to : (n : ℕ) (input : List ℕ) → List Update
 updates_to n input = updates_of (take n (frames_in input))
 
--- the accepted ones among them, each accepted behind those before it
+-- the accepted ones among them, each accepted after those before it
 abbrev pub history_to : Terms → (n : ℕ) (input : List ℕ) → List Update
 history_to terms n input = accepted_of terms (updates_to n input)
 
--- what these leave
+-- the state after these
 abbrev pub state_to : Terms → (n : ℕ) (input : List ℕ) → Option State
 state_to terms n input = state_of terms (history_to terms n input)
 
 -- ---- durations
 
--- Printed durations never drift, although the front of a playlist was removed long ago: up to each segment ever listed of a
--- section they sum to the time from its first segment's start, rounded down.
+-- Printed durations never drift, although the first segments of a playlist were removed long ago: up to each segment ever
+-- listed of a section they sum to the time from its first segment's start, rounded down.
 abbrev pub FollowedNeverDrift : Type 0
 FollowedNeverDrift = (terms : Terms) (n : ℕ) (input : List ℕ) → NeverDrifts terms (history_to terms n input)

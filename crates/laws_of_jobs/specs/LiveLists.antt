@@ -20,7 +20,7 @@ use Rattle.laws_of_jobs.specs.RoundRuns.{IsFollowingRounds}
 
 -- ---- a list
 
--- a listed segment, from its Period's start, in nanoseconds
+-- a listed segment, relative to its Period's start, in nanoseconds
 abbrev pub segment_of : LiveSegment → Segment
 segment_of s = record { part = part_of s; start = in_units (10 ^ 9) s.time; end = in_units (10 ^ 9) (s.time + s.duration) }
 
@@ -29,15 +29,15 @@ entry_with initialization [] = None
 entry_with initialization (s ∷ segments) = Some (record { initialization = initialization; segments = map segment_of (s ∷ segments) })
 
 -- The list of a run means its segments, each with its file, its time and its duration, at any URL of the MPD and any end of the Period,
--- without the filter by an instant (ISO/IEC 23009-1, 5.3.9). The MPD has no BaseURL.
+-- without filtering by a time (ISO/IEC 23009-1, 5.3.9). The MPD has no BaseURL.
 abbrev pub ListMeans : LiveRun → Type 0
 ListMeans run = (url : List ℕ) (end : End) (d : Description) → d.bases ≡ []
     → entry_of whole_window (content_meant url end d (live_told run)) ≡ entry_with run.initialization run.segments
 
 -- ---- a run
 
--- The lists of the MPD mean their segments, and those of each kept track are the segments of its last playlist, in their order, with
--- their initialization parts, addresses, ranges, durations and times.
+-- The lists of the MPD mean their segments, and those of each kept track are the segments of its last playlist, in order, with their
+-- init segments, URLs, byte ranges, durations and times.
 pub record ListsAreOfPlaylists (followed : Followed) : Type 0 where
   pub mean : All (λ (period : LivePeriod). All ListMeans period.runs) followed.mpd.periods
   pub listed : (place : ℕ) (track : FollowedTrack) → slice_get followed.tracks place ≡ Some track

@@ -1,4 +1,4 @@
--- What runs of `follow-hls` leave.
+-- The files after runs of `follow-hls`.
 use Rattle.bridge_jobs.specs.declared.jobs.Job.TheVariants as jobs
 use Rattle.std.specs.{Prelude.{◌≡◌, ◌⊎◌, ℕ, List, [], codes, length, Some, Ok, option_map}, Result.result_ok}
 use Rattle.bridge_io.specs.{InOrder.put_all, Outside.{Files, Changes}}
@@ -15,7 +15,8 @@ use Rattle.mpd_rules.specs.Rules.{dash_values}
 use Rattle.laws_of_mpds.specs.{Live.live_shown, Shown.shown_of}
 use Rattle.laws_of_jobs.specs.Ends.{Leaves}
 
--- These words ask to follow the playlists of the master at this place, which has these tracks, and over this input that is this course.
+-- This command line asks to follow the media playlists of the master playlist at this location, which has these tracks, with this
+-- course for this input.
 pub record IsFollowingRounds (words : List (List ℕ)) (job : MasterJob) (files : Files) (tracks : List MasterTrack) (input : List ℕ)
     (course : Course) : Type 0 where
   pub asks : job_of words ≡ Some (jobs.FollowHls job)
@@ -24,28 +25,28 @@ pub record IsFollowingRounds (words : List (List ℕ)) (job : MasterJob) (files 
   pub read : master_at place files ≡ Ok tracks
   pub goes : course_of words (Some files) (Some input) ≡ Some course
 
--- how many rounds an input has
+-- how many snapshots an input has
 abbrev pub rounds_in : MasterJob → List MasterTrack → (input : List ℕ) → ℕ
 rounds_in job tracks input = length (round_stream (hls_of job.out tracks) start input).0
 
--- None of the first n rounds is accepted and the files are as they were, or the MPD is that of the whole accepted history, and each
--- other file as it was.
+-- None of the first n snapshots is accepted and the files are unchanged, or the MPD is that of the whole accepted history, and each
+-- other file is unchanged.
 abbrev pub HoldsMpd : MasterJob → List MasterTrack → (input : List ℕ) → (n : ℕ) → (first last : Files) → Type 0
 HoldsMpd job tracks input n first last =
     ((accepted_among job.out tracks input n ≡ []) × (last ≡ first))
     ⊎ ((followed : Followed) × ((left_by job.out tracks input n).follow.followed ≡ Some followed)
     × (last (in_folder job.out (codes "live.mpd")) ≡ Some (live_text followed.mpd)))
 
--- After the files of any number of rounds they are so.
+-- This holds after the files of any number of snapshots.
 abbrev pub RoundFilesAreOfTheHistory : Type 0
 RoundFilesAreOfTheHistory =
     (words : List (List ℕ)) (job : MasterJob) (files : Files) (tracks : List MasterTrack) (input : List ℕ) (course : Course) (n : ℕ)
     (first last : Files) → IsFollowingRounds words job files tracks input course
     → Changes (put_all (files_to n course)) (Some first) (Some last) → HoldsMpd job tracks input n first last
 
--- Where some of the first n rounds are accepted, the MPD is read as what it says, whatever may be played at an instant: until all
--- playlists are ended that it is dynamic, when the presentation begins and when the last round was read, and each Period's id, start and
--- lists.
+-- Where some of the first n snapshots are accepted, the MPD is read back with its values, whatever is available at a time: until all
+-- playlists have EXT-X-ENDLIST, that it is dynamic, when the presentation begins and when the last snapshot was read, and each Period's
+-- id, start and lists.
 abbrev pub FollowedRunsAreRead : Type 0
 FollowedRunsAreRead =
     (words : List (List ℕ)) (job : MasterJob) (files : Files) (tracks : List MasterTrack) (input : List ℕ) (course : Course) (n : ℕ)

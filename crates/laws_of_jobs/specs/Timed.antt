@@ -1,4 +1,4 @@
--- What is read of an MPD that is written of playlists with the times of their media files.
+-- What an MPD is read as that is written for playlists with the decode times of their media files.
 use Rattle.std.specs.{Prelude.{◌≡◌, ℕ, ℤ, List, map, All, Option, Some, option_map, Ok}, Result.result_ok}
 use Rattle.bridge_io.specs.Outside.{Files}
 use Rattle.mpd_tree.specs.Meaning.{reading_of}
@@ -13,7 +13,8 @@ use Rattle.dash_writer.specs.Timed.{timed_text}
 use Rattle.bridge_reach.specs.DashTimes.{runs_of}
 use Rattle.laws_of_mpds.specs.{Shown.shown_of, Timed.{IsTimed, timed_as, timed_shown}, Written.HaveAddresses}
 
--- A master and playlists like those that are read are presented, and their media files, whose folder has a URL, state times.
+-- A master playlist and media playlists like those that were read have a presentation, and their media files, whose folder
+-- has a URL, have decode times.
 pub record HaveTimes (master url : List ℕ) (tracks : List MasterTrack) (medias : List Media) (folder : List ℕ) (files : Files)
     (p : Presented) (times : List SegmentTimes) (rows : List (List ℕ)) : Type 0 where
   pub read : master_of master url ≡ Ok (map track_seen tracks)
@@ -28,7 +29,7 @@ TimedCanBeRead = (master url : List ℕ) (tracks : List MasterTrack) (medias : L
     (p : Presented) (times : List SegmentTimes) (rows : List (List ℕ)) → HaveTimes master url tracks medias folder files p times rows
     → IsTimed p (runs_of times rows)
 
--- at any URL and instant
+-- at any URL and time
 abbrev pub TimedMeanTheirTimes : Type 0
 TimedMeanTheirTimes = (master url : List ℕ) (tracks : List MasterTrack) (medias : List Media) (folder : List ℕ) (files : Files)
     (p : Presented) (times : List SegmentTimes) (rows : List (List ℕ)) (at : List ℕ) (now : Option ℤ)

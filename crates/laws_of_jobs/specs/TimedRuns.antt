@@ -1,4 +1,4 @@
--- What the MPD means that a run of `dash-times` leaves.
+-- What the MPD of a run of `dash-times` means.
 use Rattle.bridge_courses.specs.declared.status.Status.TheVariants as status
 use Rattle.std.specs.Prelude.{◌≡◌, ℕ, ◌-◌, ℤ, List, map, codes, get_or, Option, Some, Ok}
 use Rattle.bridge_io.specs.Outside.{Files}
@@ -13,8 +13,8 @@ use Rattle.bridge_playlists.specs.{declared.place.StorePlace.StorePlace, Places.
 use Rattle.bridge_core.specs.{Courses.course_of, TimesPromises.AsksForTimes}
 use Rattle.laws_of_mpds.specs.Timed.{AreJoined, EachEntry, SameButTimes}
 
--- Of a track in a section each segment begins at the decode time that its own file states less that of the first one, in the
--- timescale that the initialization part states (ISO/IEC 14496-12, 8.4.2 and 8.8.12), and ends when the next one begins.
+-- Each segment of a track in a section begins at the decode time of its own file minus that of the first one, in the
+-- timescale of the init segment (ISO/IEC 14496-12, 8.4.2 and 8.8.12), and ends when the next one begins.
 pub record HasFileTimes (folder : List ℕ) (files : Files) (entry : Entry) : Type 0 where
   pub scale : ℕ
   pub media : scale_at folder files entry.initialization ≡ Ok scale
@@ -23,8 +23,8 @@ pub record HasFileTimes (folder : List ℕ) (files : Files) (entry : Entry) : Ty
   pub starts : map (λ (x : Segment). x.start) entry.segments ≡ map (λ n. in_units scale (n - get_or decode 0 0)) decode
   pub joined : AreJoined entry.segments
 
--- A job's master and its playlists mean something (RFC 8216, 4.3), the MPD that is written means something at any URL and
--- instant (ISO/IEC 23009-1, 5.3), that is the same but for times, and the times are those of the files.
+-- The command's master playlist and its media playlists have a meaning (RFC 8216, 4.3), the written MPD has a meaning at
+-- any URL and time (ISO/IEC 23009-1, 5.3), it is the same except for times, and the times are those of the files.
 pub record TimedMeansTheSame (job : MasterJob) (before after : Files) : Type 0 where
   pub place : StorePlace
   pub at : store_place_of job.base job.master ≡ Some place
@@ -37,7 +37,7 @@ pub record TimedMeansTheSame (job : MasterJob) (before after : Files) : Type 0 w
   pub same : SameButTimes playlists mpd
   pub times : EachEntry (HasFileTimes place.folder before) mpd
 
--- Where such a run is done, the MPD that it wrote is so.
+-- Where such a run succeeds, this holds for the MPD that it wrote.
 abbrev pub WrittenHasPlaylistsAndTimes : Type 0
 WrittenHasPlaylistsAndTimes = (words : List (List ℕ)) (job : MasterJob) (input : Option (List ℕ)) (course : Course)
     (before after : World) (first last : Files)

@@ -11,16 +11,16 @@ use laws_of_reloads::followed_texts_reload;
 use live_meaning::{accepted_never_drift, histories_go_on};
 use mpd_presentation::presentations_show_their_mpd;
 
-/// Each frame of a followed MPD is accepted or refused, written, told and counted by what the whole history of the frames
-/// accepted before it left.
+/// Each update frame of a followed MPD is accepted or rejected, written, reported and counted by the state after the
+/// whole history of frames accepted before it.
 pub fn frames_are_judged_by_the_history()
     ensures { FramesAreOfTheHistory }
 {
     histories_go_on();
 }
 
-/// After every accepted frame of a followed MPD each track's file is the playlist of the whole history of accepted frames, and
-/// the master that of the first one.
+/// After every accepted update frame of a followed MPD each track's file is the playlist of the whole history of accepted
+/// frames, and the master playlist that of the first one.
 pub fn followed_files_are_of_the_history()
     ensures { FollowedFilesAreOfTheHistory }
 {
@@ -28,8 +28,8 @@ pub fn followed_files_are_of_the_history()
     presentations_show_their_mpd();
 }
 
-/// From the second accepted frame on each track's file lawfully reloads the one before (RFC 8216, 6.2): both are read as
-/// playlists, and the one may take the place of the other.
+/// From the second accepted update frame on, each track's file is a valid update of the one before (RFC 8216, 6.2): both
+/// are read as playlists, and the one is a valid update of the other.
 pub fn followed_files_reload()
     ensures { FollowedFilesReload }
 {
@@ -39,9 +39,9 @@ pub fn followed_files_reload()
     read_trees_are_of_bytes();
 }
 
-/// However a run ends, its files are those of the accepted ones among some first frames, and of the next frame nothing, or what
-/// was begun, or all. Where it is done, or its stream is refused, they are those of all frames; where a read of the input
-/// failed, those of some first frames alone.
+/// However a run ends, its files are those of the accepted ones among some first update frames, and of the next frame nothing,
+/// or what was begun, or all. Where it succeeds, or its stream is rejected, they are those of all frames; where a read of the
+/// input failed, only those of some first frames.
 pub fn a_followed_execution_leaves_its_history()
     ensures { FollowLeavesHistory }
 {
@@ -50,15 +50,15 @@ pub fn a_followed_execution_leaves_its_history()
     a_verdict_keeps_the_steps();
 }
 
-/// However a run ends, it made exactly the segments that the accepted frames appended whose lines are told, exactly those of an
-/// accepted frame whose files or line failed, and of each refused frame at most those that it was to append: none, but where
-/// a segment's address was refused or memory was wanting.
+/// However a run ends, it made exactly the segments that those accepted update frames appended whose lines are reported,
+/// exactly those of an accepted frame whose files or line failed, and of each rejected frame at most those that it was to
+/// append: none, except where a segment's URL was rejected or memory ran out.
 pub fn a_followed_execution_counts_its_segments()
     ensures { FollowCountsSegments }
 {}
 
-/// The printed durations of a section sum from its first segment ever listed to the exact time rounded down, although the front
-/// of the playlist was removed long ago.
+/// The printed durations of a section sum, from its first segment ever listed, to the exact time rounded down, although the
+/// first segments were removed long ago.
 pub fn followed_durations_never_drift()
     ensures { FollowedNeverDrift }
 {

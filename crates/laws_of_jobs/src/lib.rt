@@ -1,5 +1,5 @@
-//! What whole runs leave: the files of `follow` by its frames, the MPDs of `dash-times` and `follow-hls`. Laws: the functions do
-//! nothing, and what they ensure is the law.
+//! The files after whole runs: those of `follow` by its update frames, the MPDs of `dash-times` and `follow-hls`. Laws: the
+//! functions do nothing, and what they ensure is the law.
 #![tactic(auto)]
 
 mod follow;

@@ -1,4 +1,4 @@
-//! Laws of MPDs that are written of playlists that are read. The functions do nothing: what they ensure is the law.
+//! Laws of MPDs that are written for playlists that were read. The functions do nothing: what they ensure is the law.
 ghost use Rattle.laws_of_jobs.specs.Followed.{FollowedAreRead, FollowedCanBeRead};
 ghost use Rattle.laws_of_jobs.specs.Timed.{TimedAreRead, TimedCanBeRead, TimedMeanTheirTimes};
 ghost use Rattle.laws_of_jobs.specs.TimedRuns.{WrittenHasPlaylistsAndTimes};
@@ -13,12 +13,13 @@ use laws_of_mpds::{
 };
 use laws_of_playlists::read_trees_are_of_bytes;
 
-/// After every list of accepted rounds, from the first on, the text of the live MPD says what the MPD says, where the master was
-/// read, the rounds are at instants that can be read, and their playlists are bounded and have addresses as those that are read
-/// (`hls_media::what_is_read_is_bounded`, `laws_of_mpds::what_is_read_has_addresses`). Until all playlists are ended it says
-/// that the MPD is dynamic, when the presentation begins and when the last round was read, in whole milliseconds; then the id and
-/// the start of each Period, and of each track in each Period the list of its segments: the time of the first one, each one's
-/// duration, address and range, and the initialization part (ISO/IEC 23009-1, 5.3.1 to 5.3.9; RFC 8216 4.3 and 6.2).
+/// After every list of accepted snapshots, from the first one, the text of the live MPD is read back with the values of the MPD,
+/// where the master playlist was read, the snapshots have timestamps that can be read, and their playlists are bounded and have
+/// URLs as those that were read (`hls_media::what_is_read_is_bounded`, `laws_of_mpds::what_is_read_has_addresses`). Until all
+/// playlists have EXT-X-ENDLIST it says that the MPD is dynamic, when the presentation begins and when the last snapshot was
+/// read, in whole milliseconds; then the id and the start of each Period, and for each track in each Period the list of its
+/// segments: the time of the first one, each one's duration, URL and byte range, and the init segment (ISO/IEC 23009-1, 5.3.1 to
+/// 5.3.9; RFC 8216 4.3 and 6.2).
 pub fn followed_mpds_are_read()
     ensures readable { FollowedCanBeRead }
     ensures said { FollowedAreRead }
@@ -27,11 +28,11 @@ pub fn followed_mpds_are_read()
     read_tracks_can_be_written();
 }
 
-/// The MPD that is written of a master and playlists that are read with the times that their media files state means, at any URL
-/// and instant, the tracks, files and initialization parts of the playlists, where each segment begins at its decode time less
-/// that of its section's first one (ISO/IEC 23009-1, 5.3.9.2 and 5.3.9.6; ISO/IEC 14496-12, 8.4.2 and 8.8.12). Of each track in
-/// each section its text says the timescale that the initialization part states, the decode time of the first segment, and each
-/// one's duration, address and range, with the initialization part. Files are of bytes, so that a timescale has 32 bits.
+/// The MPD that is written for a master playlist and media playlists that were read, with the decode times of their media files,
+/// means, at any URL and time, the tracks, files and init segments of the playlists, where each segment begins at its decode
+/// time minus that of its section's first one (ISO/IEC 23009-1, 5.3.9.2 and 5.3.9.6; ISO/IEC 14496-12, 8.4.2 and 8.8.12). For
+/// each track in each section its text has the timescale of the init segment, the decode time of the first segment, and each
+/// one's duration, URL and byte range, with the init segment. Files consist of bytes, so a timescale has 32 bits.
 pub fn timed_mpds_mean_their_times()
     ensures readable { TimedCanBeRead }
     ensures meaning { TimedMeanTheirTimes }
@@ -43,10 +44,10 @@ pub fn timed_mpds_mean_their_times()
     what_is_read_is_silent();
 }
 
-/// Where a run of `dash-times` is done, the MPD that it wrote means, at any URL and instant, the tracks, initialization parts,
-/// addresses and ranges that the master and its playlists mean, in their order. Of each track in each section a segment begins at the
-/// decode time that its own file states less that of the first one, in the timescale that the initialization part states, and ends
-/// when the next one begins (RFC 8216, 4.3; ISO/IEC 23009-1, 5.3; ISO/IEC 14496-12, 8.4.2 and 8.8.12).
+/// Where a run of `dash-times` succeeds, the MPD that it wrote means, at any URL and time, the same tracks, init segments, URLs and
+/// byte ranges in order as the master playlist and its media playlists. A segment of a track in a section begins at the decode time
+/// of its own file minus that of the first one, in the timescale of the init segment, and ends when the next one begins (RFC 8216,
+/// 4.3; ISO/IEC 23009-1, 5.3; ISO/IEC 14496-12, 8.4.2 and 8.8.12).
 pub fn what_is_timed_means_the_playlists()
     ensures { WrittenHasPlaylistsAndTimes }
 {

@@ -14,8 +14,9 @@ use laws_of_mpds::{
 };
 use laws_of_playlists::read_trees_are_of_bytes;
 
-/// Over every stream of rounds the MPD is that of the whole history of accepted rounds, and a segment that a later accepted round
-/// lists again stays in it as it was: its time, and the id and the start of its Period (ISO/IEC 23009-1, 5.3.2 and 5.3.9.6).
+/// Over every stream of snapshots the MPD is that of the whole history of accepted snapshots, and a segment that a later accepted
+/// snapshot lists again is unchanged in it: its time, and the id and the start of its Period (ISO/IEC 23009-1, 5.3.2 and
+/// 5.3.9.6).
 pub fn listed_segments_stay()
     ensures history { LeftIsOfTheHistory }
     ensures stay { ListedSegmentsStay }
@@ -24,17 +25,18 @@ pub fn listed_segments_stay()
     segments_stay();
 }
 
-/// After the files of any number of rounds of a run of `follow-hls` the MPD in the job's folder has the text of what the whole history
-/// of accepted rounds left, over the tracks of the master that the job names; where none was accepted, each file is as it was.
+/// After the files of any number of snapshots of a run of `follow-hls` the MPD in the output folder has the text for the state after
+/// the whole history of accepted snapshots, for the tracks of the command's master playlist; where none was accepted, each file is
+/// unchanged.
 pub fn followed_mpd_files_are_of_the_history()
     ensures { RoundFilesAreOfTheHistory }
 {
     the_mpd_is_of_the_accepted_rounds();
 }
 
-/// That MPD is read as what it says, whatever may be played at an instant (ISO/IEC 23009-1, 5.3.1 to 5.3.9; RFC 8216, 4.3 and 6.2): until
-/// all playlists are ended that it is dynamic, when the presentation begins and when the last accepted round was read, in whole
-/// milliseconds; then the id and the start of each Period, and of each track in each Period the list of its segments.
+/// That MPD is read back with its values, whatever is available at a time (ISO/IEC 23009-1, 5.3.1 to 5.3.9; RFC 8216, 4.3 and 6.2): until
+/// all playlists have EXT-X-ENDLIST, that it is dynamic, when the presentation begins and when the last accepted snapshot was read, in
+/// whole milliseconds; then the id and the start of each Period, and for each track in each Period the list of its segments.
 pub fn followed_runs_are_read()
     ensures { FollowedRunsAreRead }
 {
@@ -46,9 +48,8 @@ pub fn followed_runs_are_read()
     what_is_read_is_bounded();
 }
 
-/// Its lists mean, without the filter by an instant, exactly the segments of the last accepted playlist of each kept track, in their
-/// order: initialization part, address, range, duration, and a time that goes on from the first one (ISO/IEC 23009-1, 5.3.9; RFC 8216,
-/// 4.3).
+/// Its lists mean, without filtering by a time, exactly the segments of the last accepted playlist of each kept track, in order: init
+/// segment, URL, byte range, duration, and consecutive times from the first one's (ISO/IEC 23009-1, 5.3.9; RFC 8216, 4.3).
 pub fn last_playlists_are_meant()
     ensures { LastPlaylistsAreMeant }
 {
@@ -62,9 +63,9 @@ pub fn last_playlists_are_meant()
     last_playlists_are_listed();
 }
 
-/// However a run of `follow-hls` ends, its files are so of the accepted ones among some first rounds, and of the next round
-/// nothing, or what was begun, or all. Where it is done, or its stream is refused, they are those of all rounds; where a read
-/// failed, those of some first rounds alone.
+/// However a run of `follow-hls` ends, its files are those of the accepted ones among some first snapshots, and of the next
+/// snapshot nothing, or what was begun, or all. Where it succeeds, or its stream is rejected, they are those of all
+/// snapshots; where a read failed, only those of some first snapshots.
 pub fn a_followed_hls_execution_leaves_its_history()
     ensures { FollowHlsLeavesHistory }
 {

@@ -1,4 +1,4 @@
--- What is read of a track in a section means what was written.
+-- What is read back of a track in a section means what was written.
 use Rattle.std.specs.{Prelude.{◌≡◌, ℕ, ◌+◌, ◌<◌, List, [], length, map}, List.AllByRecursion}
 use Rattle.url_parts.specs.{Addresses.IsAddress, declared.address.Part.Part}
 use Rattle.timeline.specs.{declared.entry.End.End, declared.names.Names.TheVariants.Addresses, Expansions.Closed}
@@ -7,12 +7,12 @@ use Rattle.presentation.specs.{declared.parts.Content.Content, Presented.{listed
 use Rattle.mpd_presentation.specs.Meanings.{content_meant}
 use Rattle.laws_of_mpds.specs.{Rows.in_row, Told.{IsReadable, IsShort, list_told, told_of}}
 
--- a file, or some bytes of one, by an address that is resolved to itself
+-- a file, or a byte range, by a URL that resolves to itself
 pub record IsOwnPart (part : Part) : Type 0 where
   pub address : IsAddress part.address
   pub readable : IsReadable part
 
--- segments one behind another from the section's start on, each with a duration above 0 and its own address
+-- consecutive segments from the section's start, each with a duration above 0 and its own URL
 pub record IsPlain (c : Content) : Type 0 where
   pub parts : List Part
   pub durations : List ℕ
@@ -27,7 +27,7 @@ pub record IsPlain (c : Content) : Type 0 where
   pub initialization : IsOwnPart c.initialization
   pub own : AllByRecursion IsOwnPart parts
 
--- the same, where the first segment begins so many ticks behind the section's start
+-- the same, where the first segment begins `from` ticks after the section's start
 pub record IsPlainFrom (from : ℕ) (c : Content) : Type 0 where
   pub parts : List Part
   pub durations : List ℕ

@@ -1,4 +1,4 @@
--- What is read of the text of a live MPD.
+-- What the text of a live MPD is read as.
 use Rattle.std.specs.Prelude.{◌≡◌, ℕ, ◌^◌, ◌<◌, ℤ, not, List, length, map, slice_get, decimal, All, Option, Some, None, option_map}
 use Rattle.std.specs.{Prelude.{option_and_then, if◌then◌else◌}, List.AllByRecursion, Result.result_ok}
 use Rattle.iso_time.specs.{Instant.IsReadable as IsReadableInstant, Laws.floor_millis}
@@ -9,12 +9,12 @@ use Rattle.dash_writer.specs.{Live.{IsLive, first_time, live_text, part_of}, dec
 use Rattle.dash_writer.specs.{declared.live.LivePeriod.LivePeriod, declared.live.LiveRun.LiveRun, declared.live.LiveSegment.LiveSegment}
 use Rattle.laws_of_mpds.specs.{Contents.IsOwnPart, Shown.{Shown, shown_of, shown_periods}, Texts.IsTellable, Told.{IsShort, list_told}}
 
--- ---- what is told
+-- ---- its values
 
 abbrev pub durations_in : LiveRun → List ℕ
 durations_in run = map (λ (segment : LiveSegment). segment.duration) run.segments
 
--- The list of a track in a Period, whose media time is 0 at the Period's start, in nanoseconds: the time of its first segment, then
+-- The list of a track in a Period, in nanoseconds, with media time 0 at the Period's start: the time of its first segment, then
 -- each one's duration and file (ISO/IEC 23009-1, 5.3.9.3 and 5.3.9.6).
 abbrev pub live_told : LiveRun → Segments
 live_told run = list_told (10 ^ 9) 0 (first_time run.segments) run.initialization (durations_in run) (map part_of run.segments)
@@ -23,11 +23,11 @@ abbrev pub told_in : LiveMpd → (section place : ℕ) → Option Segments
 told_in mpd section place = option_and_then (λ (period : LivePeriod). option_map live_told (slice_get period.runs place))
     (slice_get mpd.periods section)
 
--- an instant of an MPD that may grow, in whole milliseconds
+-- a timestamp of a dynamic MPD, in whole milliseconds
 abbrev pub until_ended : LiveMpd → ℤ → Option ℤ
 until_ended mpd instant = if mpd.ended then None else Some (floor_millis instant)
 
--- It is dynamic until it is ended. A Period has its section's number as its id.
+-- It is dynamic until the presentation has ended. A Period has its section's number as its id.
 abbrev pub live_shown : LiveMpd → Shown
 live_shown mpd = record {
   dynamic = not mpd.ended;
@@ -37,9 +37,9 @@ live_shown mpd = record {
       mpd.tracks 0 mpd.periods;
 }
 
--- ---- MPDs that are written and read
+-- ---- MPDs that are written and read back
 
--- files by addresses that are resolved to themselves, and numbers of at most 64 digits
+-- files by URLs that resolve to themselves, and numbers of at most 64 digits
 pub record IsReadableRun (run : LiveRun) : Type 0 where
   pub initialization : IsOwnPart run.initialization
   pub parts : AllByRecursion IsOwnPart (map part_of run.segments)
@@ -47,7 +47,7 @@ pub record IsReadableRun (run : LiveRun) : Type 0 where
   pub first : IsShort (first_time run.segments)
   pub few : IsShort (length run.segments)
 
--- less than 10^19 nanoseconds behind the presentation's start
+-- less than 10^19 nanoseconds after the presentation's start
 pub record IsReadablePeriod (period : LivePeriod) : Type 0 where
   pub start : period.start < 10 ^ 19
   pub runs : All IsReadableRun period.runs
@@ -59,8 +59,8 @@ pub record IsReadableMpd (mpd : LiveMpd) : Type 0 where
   pub periods : All IsReadablePeriod mpd.periods
   pub tracks : All IsTellable mpd.tracks
 
--- The text says what the MPD says: until it is ended when the presentation begins and when the text was made, and each Period's id,
--- start and lists. What may be played at an instant isn't looked at.
+-- The text is read back with the values of the MPD: until the presentation has ended, its start and the time of the text, and each
+-- Period's id, start and lists. What is available at a time doesn't matter.
 abbrev pub LiveTextsAreRead : Type 0
 LiveTextsAreRead = (mpd : LiveMpd) → IsReadableMpd mpd
     → option_map (λ tree. shown_of (dash_values tree)) (result_ok (reading_of (live_text mpd))) ≡ Some (live_shown mpd)

@@ -11,7 +11,7 @@ use Rattle.mpd_tree.specs.Placed.{root_place}
 use Rattle.dash_writer.specs.Manifest.{root_of}
 use Rattle.laws_of_mpds.specs.{Told.read_at, Contents.IsPlain}
 
--- ---- what counts of a Representation
+-- ---- what matters of a Representation
 
 pub record Seen : Type 0 where
   pub kind : Kind
@@ -25,13 +25,13 @@ seen_of url end row = record {
   entry = entry_of whole_window (content_of_row url end row);
 }
 
--- tracks in a section, of which the first one has a place
+-- tracks in a section, given the index of the first one
 abbrev pub seen_from : Presented → (section place : ℕ) → List Track → List Seen
 seen_from p section place [] = []
 seen_from p section place (track ∷ tracks) =
     record { kind = track.kind; language = track.language; entry = entry_at p section place } ∷ seen_from p section (place + 1) tracks
 
--- ---- presentations that are written and read
+-- ---- presentations that are written and read back
 
 abbrev pub are_text : List Kind → Bool
 are_text [] = true
@@ -59,7 +59,7 @@ pub record IsWritable (p : Presented) : Type 0 where
   pub plain : All IsPlain p.contents
   pub ordered : are_in_order (map (λ (track : Track). track.kind) p.tracks) ≡ true
 
--- at any URL and instant
+-- at any URL and time
 abbrev pub TreesMean : Type 0
 TreesMean = (p : Presented) (url : List ℕ) (now : Option ℤ) → IsWritable p
     → meaning_if_counted (dash_values (read_at root_place (root_of p))) url now ≡ Some (meaning_of p)

@@ -1,4 +1,4 @@
--- What a presentation of the files of a master and of its media playlists means.
+-- What a presentation of the files of a master playlist and its media playlists means.
 use Rattle.std.specs.Prelude.{◌≡◌, ℕ, List, [], ◌∷◌, map, Some, Ok}
 use Rattle.bridge_io.specs.Outside.{Files}
 use Rattle.hls_master.specs.{declared.track.MasterTrack.MasterTrack, Masters.master_of, SeenTracks.track_seen}
@@ -8,19 +8,19 @@ use Rattle.hls_presentation.specs.Presenting.{hls_presented_of}
 use Rattle.meaning.specs.{Meanings.Meaning, Same.SameTimed}
 use Rattle.presentation.specs.{Meanings.meaning_of, Presented.Presented}
 
--- the file at a URL under a folder is a master of these tracks
+-- the file at a URL under a folder is a master playlist with these tracks
 pub record IsMaster (files : Files) (folder url : List ℕ) (tracks : List MasterTrack) : Type 0 where
   pub bytes : List ℕ
   pub found : file_at files folder url ≡ Some bytes
   pub read : master_of bytes url ≡ Ok (map track_seen tracks)
 
--- the file at an address under a folder is this media playlist
+-- the file at a URL under a folder is this media playlist
 pub record IsPlaylist (files : Files) (folder address : List ℕ) (media : Media) : Type 0 where
   pub bytes : List ℕ
   pub found : file_at files folder address ≡ Some bytes
   pub read : media_of bytes address ≡ Ok media
 
--- so are those at the addresses of tracks, one for each
+-- so are those at the URLs of tracks, one for each
 abbrev pub ArePlaylists : Files → (folder : List ℕ) → List MasterTrack → List Media → Type 0
 ArePlaylists files folder [] [] = Unit {0}
 ArePlaylists files folder [] (media ∷ medias) = ⊥
@@ -28,11 +28,11 @@ ArePlaylists files folder (track ∷ tracks) [] = ⊥
 ArePlaylists files folder (track ∷ tracks) (media ∷ medias) = IsPlaylist files folder track.address media
     × ArePlaylists files folder tracks medias
 
--- the files mean what the presentation means, with equal times that are times
+-- the files mean what the presentation means, with equal and valid times
 abbrev pub MeanTheSame : Files → (folder url : List ℕ) → Presented → Type 0
 MeanTheSame files folder url p = (m : Meaning) × ((hls_meaning files folder url ≡ Some m) × SameTimed m (meaning_of p))
 
--- what is presented of a master and its media playlists means what these files mean
+-- the presentation of a master playlist and its media playlists means what these files mean
 abbrev pub PresentedMeanTheirFiles : Type 0
 PresentedMeanTheirFiles = (files : Files) (folder url : List ℕ) (tracks : List MasterTrack) (medias : List Media) (p : Presented)
     → IsMaster files folder url tracks

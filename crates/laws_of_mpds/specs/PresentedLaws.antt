@@ -11,7 +11,7 @@ use Rattle.meaning.specs.Same.{SameTimed}
 abbrev pub told_by : Source → Told
 told_by s = record { track = track_seen s.track; media = s.media }
 
--- what is presented of playlists that are read means what they mean
+-- the presentation of playlists that were read means what they mean
 abbrev pub PresentedMeanWhatIsTold : Type 0
 PresentedMeanWhatIsTold = (tracks : List MasterTrack) (medias : List Media) (p : Presented) → All IsBounded medias
     → All IsSilentTrack tracks

@@ -1,9 +1,9 @@
--- How the segments of a track lie in a section.
+-- The times of a track's segments in a section.
 use Rattle.std.specs.Prelude.{ℕ, ◌+◌, List, [], ◌∷◌}
 use Rattle.exact_time.specs.Time.{in_units}
 use Rattle.timeline.specs.Expansions.{Extent}
 
--- segments that last so many ticks each, one behind another
+-- consecutive segments with these durations in ticks
 abbrev pub in_row : (ticks from : ℕ) → List ℕ → List Extent
 in_row ticks from [] = []
 in_row ticks from (d ∷ durations) =

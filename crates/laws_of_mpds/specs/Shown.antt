@@ -1,4 +1,4 @@
--- What counts of what an MPD says, where the segments of each Representation are listed.
+-- The values of an MPD that matter, where the segments of each Representation are listed.
 use Rattle.std.specs.Prelude.{ℕ, ◌+◌, ℤ, Bool, List, [], ◌∷◌, map, Option, Some}
 use Rattle.bridge_io.specs.declared.media.Kind.{Kind}
 use Rattle.mpd_levels.specs.Segments.{Segments}
@@ -10,7 +10,7 @@ use Rattle.mpd_presentation.specs.Rows.{Period, Row}
 pub record ShownTrack : Type 0 where
   pub kind : Kind
   pub language : Option (List ℕ)
-  -- the references that addresses are resolved against
+  -- the base references
   pub bases : List (List ℕ)
   pub segments : Option Segments
 
@@ -27,7 +27,7 @@ pub record Shown : Type 0 where
   pub publish_time : Option ℤ
   pub periods : List ShownPeriod
 
--- ---- what is read
+-- ---- read back
 
 abbrev pub shown_row : Row → ShownTrack
 shown_row row = record {
@@ -48,15 +48,15 @@ shown_of mpd = record {
   periods = map shown_period mpd.periods;
 }
 
--- ---- what is written
+-- ---- written
 
--- tracks from a place on, each with the segments that are told of it
+-- tracks from an index on, each with its segment values
 abbrev pub shown_tracks : (told : ℕ → Option Segments) → (place : ℕ) → List Track → List ShownTrack
 shown_tracks told place [] = []
 shown_tracks told place (track ∷ tracks) =
     record { kind = track.kind; language = track.language; bases = []; segments = told place } ∷ shown_tracks told (place + 1) tracks
 
--- Periods from a place on, with the same tracks
+-- Periods from an index on, with the same tracks
 abbrev pub shown_periods : {P : Type 0} → (id : ℕ → P → List ℕ) → (start : P → ℕ) → (told : (section track : ℕ) → Option Segments)
     → List Track → (place : ℕ) → List P → List ShownPeriod
 shown_periods id start told tracks place [] = []

@@ -6,7 +6,7 @@ use Rattle.mpd_presentation.specs.Meanings.{dash_meaning}
 use Rattle.dash_writer.specs.Manifest.{manifest_text}
 use Rattle.laws_of_mpds.specs.Meant.{IsWritable}
 
--- a text that a value can carry: no character that a text may not have, and no tab, LF and CR
+-- a text that a value can contain: only allowed characters, without tab, LF and CR
 pub record IsCarried (text : List ℕ) : Type 0 where
   pub clean : IsClean text
   pub no_controls : IsTrue (list_all (λ b. nat_le 32 b) text)
@@ -15,7 +15,7 @@ pub record IsTellable (track : Track) : Type 0 where
   pub language : IfSome track.language IsCarried
   pub codecs : IfSome track.codecs IsCarried
 
--- at any URL and instant
+-- at any URL and time
 abbrev pub TextsMean : Type 0
 TextsMean = (p : Presented) (url : List ℕ) (now : Option ℤ) → IsWritable p → All IsTellable p.tracks
     → dash_meaning (manifest_text p) url now ≡ Some (meaning_of p)

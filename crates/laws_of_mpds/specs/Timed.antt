@@ -1,4 +1,4 @@
--- What the text of an MPD with the times of its files means.
+-- What the text of an MPD with the decode times of its files means.
 use Rattle.std.specs.Prelude.{◌≡◌, ℕ, ◌+◌, ◌*◌, ◌<◌, ℤ, false, List, [], ◌∷◌, All, length, map, slice_get, decimal, Option, Some, None}
 use Rattle.std.specs.{Prelude.{option_map, option_and_then, IfSome}, List.AllByRecursion, Result.result_ok}
 use Rattle.url_parts.specs.declared.address.Part.{Part}
@@ -14,14 +14,14 @@ use Rattle.dash_writer.specs.{Lists.parts_of, Timed.{CanBeTimed, timed_sections,
 use Rattle.laws_of_mpds.specs.{Meant.IsWritable, Rows.in_row, Shown.{Shown, shown_of, shown_periods}, Texts.IsTellable}
 use Rattle.laws_of_mpds.specs.Told.{IsShort, list_told}
 
--- ---- a presentation by the times of its files
+-- ---- a presentation with the decode times of its files
 
 -- the files of all segments
 abbrev pub files_of : Content → List Part
 files_of c = parts_of c.runs (listed_in whole_window c.runs)
 
 -- The same files, each of which begins where the one before it ends: the first one with the section, and the others after the sums
--- of the durations, in ticks of the run's scale. So each begins at its media time less the first one's.
+-- of the durations, in ticks of the run's scale. So each begins at its media time minus the first one's.
 abbrev pub content_with : Content → TickRun → Content
 content_with c run = record {
   initialization = c.initialization;
@@ -54,14 +54,14 @@ pub record IsTimed (p : Presented) (times : List TickRun) : Type 0 where
   pub can : CanBeTimed p times
   pub each : (i : ℕ) (c : Content) (run : TickRun) → slice_get p.contents i ≡ Some c → slice_get times i ≡ Some run → AreTimesOf c run
 
--- at any URL and instant
+-- at any URL and time
 abbrev pub TimedTextsMean : Type 0
 TimedTextsMean = (p : Presented) (times : List TickRun) (url : List ℕ) (now : Option ℤ) → IsWritable p → All IsTellable p.tracks
     → IsTimed p times → dash_meaning (timed_text p times) url now ≡ Some (meaning_of (timed_as p times))
 
--- ---- what stays, and what changes
+-- ---- what stays the same, and what changes
 
--- the same tracks, initialization parts, addresses and ranges in their order, at any times
+-- the same tracks, init segments, URLs and byte ranges in order, at any times
 abbrev pub SameButTimes : Meaning → Meaning → Type 0
 SameButTimes a b = Same (λ x y. Unit {0}) a b
 
@@ -73,7 +73,7 @@ TimedKeepTheirFiles = (p : Presented) (times : List TickRun) → IsWritable p �
 abbrev pub meant_parts : Content → List Part
 meant_parts c = map (part_meant c.runs) (listed_in whole_window c.runs)
 
--- what is so of each track in each section in which it has something
+-- what holds for each track in each section in which it has content
 abbrev pub EachEntry : (Entry → Type 0) → Meaning → Type 0
 EachEntry Of m = All (λ (track : Track). All (λ (entry : Option Entry). IfSome entry Of) track.entries) m.tracks
 
@@ -83,7 +83,7 @@ AreJoined [] = Unit {0}
 AreJoined (x ∷ []) = Unit {0}
 AreJoined (x ∷ y ∷ later) = (x.end ≡ y.start) × AreJoined (y ∷ later)
 
--- the files of a track in a section, of which each begins where the one before it ends, and the first one with the section
+-- the files of a track in a section, each of which begins where the one before it ends, and the first one with the section
 pub record AreFilesOf (p : Presented) (times : List TickRun) (section place : ℕ) (entry : Entry) : Type 0 where
   pub content : Content
   pub there : content_at p section place ≡ Some content
@@ -99,9 +99,9 @@ TimedBeginInRow = (p : Presented) (times : List TickRun) (section place : ℕ) �
     → section < length p.sections → place < length p.tracks
     → IfSome (entry_at (timed_as p times) section place) (AreFilesOf p times section place)
 
--- ---- the lists that are read
+-- ---- the lists that are read back
 
--- Media time is at the first segment's time where the Period begins, which is what the first S tells.
+-- The media time of the Period's start is the first segment's time, which the first S has.
 abbrev pub run_told : Content → TickRun → Segments
 run_told c run = list_told run.scale run.first run.first c.initialization run.durations (files_of c)
 

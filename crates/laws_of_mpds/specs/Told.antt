@@ -1,4 +1,4 @@
--- What is read of the segments of a Representation that are listed (ISO/IEC 23009-1, 5.3.9).
+-- What the listed segments of a Representation are read as (ISO/IEC 23009-1, 5.3.9).
 use Rattle.std.specs.Prelude.{◌≡◌, ℕ, ◌+◌, ◌^◌, ◌<◌, ◌≤◌, pos, Bool, true, List, [], ◌∷◌, ◌++◌, length, map, codes, bytes_eq, Option}
 use Rattle.std.specs.{Prelude.{Some, None, unwrap_or, IfSome}, List.{list_all, AllByRecursion}}
 use Rattle.bridge_io.specs.declared.place.Place.{Place}
@@ -12,7 +12,7 @@ use Rattle.dash_writer.specs.Segments.{duration_of, part_or_none, same_duration,
 
 -- ---- elements
 
--- an element that is written at a place
+-- an element that is written at a position
 abbrev pub read_at : Place → Written → Element
 read_at here x = record { head = head_at here x.0 x.1; children = placed (past here (opening x.0 ++ codes ">")) x.1 }
 
@@ -50,9 +50,9 @@ list_told ticks offset first initialization durations parts = record {
   has_initialization = true;
 }
 
--- ---- values that are read as they are written
+-- ---- values that are read back as they were written
 
--- a byte or more, of places below 2^63
+-- at least one byte, with offsets below 2^63
 pub record IsSomeBytes (range : Range) : Type 0 where
   pub some : 0 < range.count
   pub bounded : range.first + range.count ≤ 2 ^ 63
@@ -71,7 +71,7 @@ pub record AreReadable (timeline : SegmentTimeline) (part : Part) (listed : List
   pub few : IsShort (length listed)
   pub parts : AllByRecursion (λ x. IsReadable (part_or_none (part_of_timing timeline x))) listed
 
--- the same of a list with times of its own
+-- the same for a list with times of its own
 pub record AreReadableTimes (scale : ℕ) (start : Option ℕ) (begin : ℕ) (map_part : Part) (lengths : List ℕ)
     (files : List Part) : Type 0 where
   pub ticks : IsShort scale
@@ -82,12 +82,12 @@ pub record AreReadableTimes (scale : ℕ) (start : Option ℕ) (begin : ℕ) (ma
   pub few : IsShort (length lengths)
   pub parts : AllByRecursion IsReadable files
 
--- what was written of a timeline
+-- the values that were written for a timeline
 abbrev pub told_of : SegmentTimeline → Part → List Timing → Segments
 told_of timeline part listed =
     list_told timeline.ticks 0 0 part (map duration_of listed) (map (λ x. part_or_none (part_of_timing timeline x)) listed)
 
--- ---- a Representation in its set and its Period
+-- ---- a Representation in its AdaptationSet and its Period
 
 abbrev pub is_named : List ℕ → Written → Bool
 is_named name x = bytes_eq x.0.name name
@@ -96,7 +96,7 @@ is_named name x = bytes_eq x.0.name name
 abbrev pub AreNamed : List ℕ → List Written → Type 0
 AreNamed name xs = list_all (is_named name) xs ≡ true
 
--- Its only child is the list; its set has Representations alone, and its Period sets.
+-- Its only child is the list; its AdaptationSet has only Representations, and its Period only AdaptationSets.
 abbrev pub ListsAreRead : Type 0
 ListsAreRead = (timeline : SegmentTimeline) (part : Part) (listed : List Timing) (representation set period : Tag)
     (representations sets : List Written)
@@ -107,7 +107,8 @@ ListsAreRead = (timeline : SegmentTimeline) (part : Part) (listed : List Timing)
     (period, in_order sets) ∷ [])
     ≡ Some (told_of timeline part listed)
 
--- So it is at any scale, with any media time of the Period's start and of the first segment: no time of the start is 0.
+-- The same at any timescale, with any media time of the Period's start and of the first segment: a missing time of the
+-- start is 0.
 abbrev pub TimedListsAreRead : Type 0
 TimedListsAreRead = (ticks : ℕ) (offset : Option ℕ) (first : ℕ) (part : Part) (durations : List ℕ) (parts : List Part)
     (representation set period : Tag)

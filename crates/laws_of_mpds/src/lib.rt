@@ -1,5 +1,5 @@
-//! What is written of playlists as an MPD is read as what it was written from, and means the same; so does the presentation of
-//! playlists. Laws: the functions do nothing, and what they ensure is the law.
+//! The MPD that is written for playlists is read back as what it was written from, and means the same; so does the
+//! presentation of playlists. Laws: the functions do nothing, and what they ensure is the law.
 #![tactic(auto)]
 
 mod from_playlists;

@@ -1,13 +1,14 @@
 ghost use Rattle.laws_of_mpds.specs.PresentedFiles.{PresentedMeanTheirFiles};
 ghost use Rattle.laws_of_mpds.specs.PresentedLaws.{PresentedMeanWhatIsTold};
 
-/// A presentation of playlists that are read means what a master's tracks with these playlists mean, with equal times.
+/// A presentation of playlists that were read means what a master playlist's tracks with these playlists mean, with
+/// equal times.
 pub fn presented_mean_what_is_told()
     ensures { PresentedMeanWhatIsTold }
 {}
 
-/// A presentation of a master and of the media playlists that it mentions, which are files under a folder, means what these
-/// files mean, with equal times.
+/// A presentation of a master playlist and of the media playlists that it mentions, which are files under a folder, means
+/// what these files mean, with equal times.
 pub fn presented_mean_their_files()
     ensures { PresentedMeanTheirFiles }
 {}

@@ -1,4 +1,4 @@
--- What a presentation means that came from an MPD whose media files have an index inside.
+-- The meaning of a presentation of an MPD whose media files have a `sidx`.
 use Rattle.presentation.specs.Meanings as presentation
 use Rattle.std.specs.Prelude.{◌≡◌, ℕ, List, Option, Some, Ok}
 use Rattle.bridge_io.specs.Outside.{Files}

@@ -1,4 +1,4 @@
--- What is so of a presentation that came from an MPD whose media files have an index inside (ISO/IEC 23009-1, 5.3.9.2).
+-- What holds for a presentation of an MPD whose media files have a `sidx` (ISO/IEC 23009-1, 5.3.9.2).
 use Rattle.std.specs.Prelude.{◌≡◌, ℕ, ◌≤◌, true, List, length, All, Option, Ok}
 use Rattle.bridge_io.specs.Outside.{Files}
 use Rattle.mpd_levels.specs.declared.indexed.IndexRow.{IndexRow}
@@ -9,7 +9,7 @@ use Rattle.mpd_presentation.specs.PresentedLaws.{IsInPace}
 use Rattle.laws_of_playlists.specs.{Origins.{AreLocated, IsFound, IsLocated}, Tracks.AreWritable}
 use Rattle.index_parts.specs.Presented.{indexed_of}
 
--- from an MPD at a URL, of which no rule refuses anything, and from the files of a store whose folder has another one
+-- from a valid MPD at a URL, and from the files of a store whose folder has another URL
 pub record CameFromIndexes (p : Presented) : Type 0 where
   pub tree : Element
   pub mpd : TypedMpd (Option IndexRow)
@@ -28,7 +28,7 @@ IndexedAreWritable = (p : Presented) → CameFromIndexes p → AreWritable p.tra
 abbrev pub IndexedAreFew : Type 0
 IndexedAreFew = (p : Presented) → CameFromIndexes p → length p.tracks ≤ 200
 
--- of an MPD of bytes, at an address
+-- for an MPD that was read from bytes, at a URL
 
 abbrev pub IndexedInitializationsAreLocated : Type 0
 IndexedInitializationsAreLocated = (p : Presented) (from : CameFromIndexes p) → IsFound from.tree from.url

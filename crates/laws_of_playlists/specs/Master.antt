@@ -1,4 +1,4 @@
--- What is read again of a written master (RFC 8216, 4.3.4).
+-- What a written master playlist is read back as (RFC 8216, 4.3.4).
 use Rattle.std.specs.Prelude.{◌≡◌, ℕ, ◌+◌, List, [], ◌∷◌, ◌++◌, map, Option, Some, None, option_map}
 use Rattle.bridge_io.specs.{declared.media.Kind.Kind, declared.media.Kind.TheVariants.{Video, Audio, Text}}
 use Rattle.url_parts.specs.Addresses.{folder_of}
@@ -7,7 +7,7 @@ use Rattle.hls_writer.specs.{Attributes.playlist_name, Lines.lines_text, Master.
 use Rattle.presentation.specs.declared.track.Track.{Track}
 use Rattle.laws_of_playlists.specs.Tracks.{AreWritable}
 
--- what a track is, and where its playlist lies
+-- a track's kind and language, and the URL of its playlist
 pub record Head : Type 0 where
   pub kind : Kind
   pub language : Option (List ℕ)
@@ -29,13 +29,13 @@ head_at folder place track = record {
   address = folder ++ playlist_name place;
 }
 
--- the heads of tracks of which the first has a place
+-- the heads of tracks, given the index of the first one
 abbrev pub heads_from : (folder : List ℕ) → ℕ → List Track → List Head
 heads_from folder place [] = []
 heads_from folder place (track ∷ later) = head_at folder place track ∷ heads_from folder (place + 1) later
 
--- A master tells the tracks of which it was written, in their order, each with its kind, its language and the name of
--- its playlist beside the master.
+-- A master playlist is read back as the tracks for which it was written, in order, each with its kind, its language and the
+-- name of its playlist beside the master.
 abbrev pub MasterIsRead : Type 0
 MasterIsRead = (tracks : List Track) (url : List ℕ) → AreWritable tracks
     → option_map (λ values. map head_of values) (master_values (lines_text (master_lines tracks)) url)

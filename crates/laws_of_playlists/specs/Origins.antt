@@ -1,4 +1,4 @@
--- What is so of a presentation that came from an MPD.
+-- What holds for a presentation that came from an MPD.
 pub use Rattle.mpd_rules.specs.Ranges.{IsSomeBytes}
 use Rattle.std.specs.Prelude.{◌≡◌, ℕ, ℤ, ◌*◌, ◌<◌, ◌≤◌, List, length, All, IfSome, Option, Some, None, Ok}
 use Rattle.url_parts.specs.{Addresses.{IsAddress, absolute}, declared.address.Part.Part}
@@ -13,7 +13,7 @@ use Rattle.laws_of_playlists.specs.Tracks.{AreWritable, AreWritableIfFew}
 
 -- ---- MPDs, static and dynamic
 
--- from an MPD of which no rule refuses anything, looked at at an instant where it is dynamic
+-- from a valid MPD, at a time where it is dynamic
 pub record CameFromMpd (p : Presented) : Type 0 where
   pub tree : Element
   pub mpd : TypedMpd (Option Segments)
@@ -32,7 +32,7 @@ of_static p from = record {
   presented = from.presented;
 }
 
--- ---- where an MPD lies, and what it is made of
+-- ---- the URL of an MPD, and its texts
 
 abbrev pub IsByte : ℕ → Type 0
 IsByte b = b < 256
@@ -40,7 +40,7 @@ IsByte b = b < 256
 abbrev pub IsOfBytes : List ℕ → Type 0
 IsOfBytes text = All IsByte text
 
--- what an element says itself
+-- the texts of an element itself are bytes
 pub record IsHeadOfBytes (head : Head) : Type 0 where
   pub values : All (λ attribute. IsOfBytes attribute.value) head.attributes
   pub text : IsOfBytes head.text
@@ -53,15 +53,15 @@ pub record IsElementOfBytes (e : Element) : Type 0 where
   pub head : IsHeadOfBytes e.head
   pub children : AreOfBytes e.children
 
--- what is read of bytes
+-- what is read from bytes has texts of bytes
 abbrev pub ReadingsAreOfBytes : Type 0
 ReadingsAreOfBytes = (bytes : List ℕ) (tree : Element) → IsOfBytes bytes → reading_of bytes ≡ Ok tree → IsElementOfBytes tree
 
--- a text that gives itself as an address
+-- a text that resolves to itself is a URL
 abbrev pub OwnTextsAreAddresses : Type 0
 OwnTextsAreAddresses = (text : List ℕ) → absolute text ≡ Ok text → IsAddress text
 
--- an MPD of bytes, at an address
+-- an MPD that was read from bytes, at a URL
 pub record IsFound (mpd : Element) (base : List ℕ) : Type 0 where
   pub tree : IsElementOfBytes mpd
   pub url : IsAddress base
@@ -71,7 +71,7 @@ pub record IsFound (mpd : Element) (base : List ℕ) : Type 0 where
 abbrev pub TracksAreWritable : Type 0
 TracksAreWritable = (p : Presented) → CameFromMpd p → AreWritable p.tracks
 
--- a track and a section
+-- there is a track and a section
 abbrev pub HaveTracks : Type 0
 HaveTracks = (p : Presented) → CameFromMpd p → 0 < length p.tracks
 
@@ -81,12 +81,12 @@ HaveFewTracks = (p : Presented) → CameFromMpd p → length p.tracks ≤ 200
 abbrev pub HaveSections : Type 0
 HaveSections = (p : Presented) → CameFromMpd p → 0 < length p.sections
 
--- those of each Period of an MPD whose segments an index inside of each file tells
+-- those of each Period of an MPD whose files have a `sidx`
 abbrev pub IndexedTracksAreWritable : Type 0
 IndexedTracksAreWritable = (tree : Element) (mpd : TypedMpd (Option IndexRow)) → indexed_mpd_of tree ≡ Ok mpd
     → All (λ (period : PeriodRow (Option IndexRow)). AreWritableIfFew period.tracks) mpd.periods
 
--- of a static MPD
+-- for a static MPD
 
 abbrev pub StaticTracksAreWritable : Type 0
 StaticTracksAreWritable = (p : Presented) → CameFromStaticMpd p → AreWritable p.tracks
@@ -100,9 +100,10 @@ StaticHaveFewTracks = (p : Presented) → CameFromStaticMpd p → length p.track
 abbrev pub StaticHaveSections : Type 0
 StaticHaveSections = (p : Presented) → CameFromStaticMpd p → 0 < length p.sections
 
--- ---- the indexes of files
+-- ---- the `sidx` of files
 
--- the bytes of a Representation's index are told, and they are some; without an Initialization a byte stands before them
+-- the byte range of a Representation's `sidx` is given, and isn't empty; without an Initialization there is a byte before
+-- it
 pub record HasIndex (row : TrackRow (Option IndexRow)) : Type 0 where
   pub index : IndexRow
   pub there : row.segments ≡ Some index
@@ -114,9 +115,9 @@ abbrev pub IndexesAreTold : Type 0
 IndexesAreTold = (tree : Element) (mpd : TypedMpd (Option IndexRow)) → indexed_mpd_of tree ≡ Ok mpd
     → All (λ (period : PeriodRow (Option IndexRow)). All HasIndex period.tracks) mpd.periods
 
--- ---- addresses
+-- ---- URLs
 
--- a file, or some bytes of it
+-- a file, or a byte range of it
 pub record IsLocated (part : Part) : Type 0 where
   pub address : IsAddress part.address
   pub range : IfSome part.range IsSomeBytes
@@ -143,7 +144,7 @@ StaticPartsAreLocated = (p : Presented) (from : CameFromStaticMpd p) → IsFound
 
 -- ---- times
 
--- where segments that go on to an open end are counted
+-- where `count` succeeds for segments that continue to an open end
 abbrev pub AreInPace : Type 0
 AreInPace = (p : Presented) (s t : ℕ) → CameFromMpd p → IsCounted p s t → IsInPace (listed_at p s t)
 

@@ -1,4 +1,4 @@
--- What written lines say to a reader (RFC 8216, 4.1).
+-- What written lines are read as (RFC 8216, 4.1).
 use Rattle.hls_lines.specs.Lines as said
 use Rattle.std.specs.Prelude.{◌≡◌, ℕ, ◌==◌, ◌&&◌, not, nat_le, Bool, true, false, ⊤, List, [], ◌∷◌, ◌++◌, codes, decimal, All, Ok}
 use Rattle.std.specs.List.{list_all}
@@ -11,19 +11,19 @@ use Rattle.hls_writer.specs.Lines.{discontinuity_sequence, on_demand, discontinu
 use Rattle.hls_writer.specs.Lines.{byte_range, uri, end_list, rendition, variant, line_bytes, lines_text, range_attribute, range_bytes}
 use Rattle.hls_writer.specs.Lines.{seconds_bytes}
 
--- ---- lines that are read as they were written
+-- ---- lines that are read back as they were written
 
 -- a space or a visible character of ASCII
 abbrev pub is_printable : ℕ → Bool
 is_printable b = nat_le 32 b && nat_le b 126
 
--- a text doesn't end by a space
+-- a text doesn't end with a space
 abbrev pub ends_visibly : List ℕ → Bool
 ends_visibly [] = true
 ends_visibly (b ∷ []) = not (b == 32)
 ends_visibly (b ∷ (c ∷ bs)) = ends_visibly (c ∷ bs)
 
--- a line is no blank one, no tag and no comment
+-- a line isn't blank, a tag or a comment
 abbrev pub begins_uri : List ℕ → Bool
 begins_uri [] = false
 begins_uri (b ∷ bs) = not (b == 35)
@@ -37,13 +37,13 @@ pub record IsReadable (line : WrittenLine) : Type 0 where
   pub ends : ends_visibly (line_bytes line) ≡ true
   pub whole : IsUriOrTag line
 
--- ---- what they say
+-- ---- what they are read as
 
 -- what follows `EXT-X-MAP:`
 abbrev pub map_bytes : Part → List ℕ
 map_bytes part = codes "URI=\"" ++ part.address ++ codes "\"" ++ optional_text range_attribute part.range
 
--- what a line at a place says
+-- what a line at a position is read as
 abbrev pub said_at : WrittenLine → Place → PlaylistLine
 said_at header place = said.tag (codes "EXTM3U") [] place
 said_at (version number) place = said.tag (codes "EXT-X-VERSION") (decimal number) place
@@ -61,14 +61,14 @@ said_at end_list place = said.tag (codes "EXT-X-ENDLIST") [] place
 said_at (rendition first others) place = said.tag (codes "EXT-X-MEDIA") (attributes_bytes first others) place
 said_at (variant first others) place = said.tag (codes "EXT-X-STREAM-INF") (attributes_bytes first others) place
 
--- what lines say of which the first stands at a place
+-- what lines are read as, the first of which is at a position
 abbrev pub said_from_place : Place → List WrittenLine → List PlaylistLine
 said_from_place place [] = []
 said_from_place place (line ∷ lines) = said_at line place ∷ said_from_place (behind (line_bytes line) place) lines
 
 -- ---- law
 
--- written lines are read as they were written
+-- written lines are read back as they were written
 abbrev pub WrittenLinesAreRead : Type 0
 WrittenLinesAreRead = (lines : List WrittenLine) → All IsReadable lines → lines_of (lines_text (header ∷ lines))
     ≡ Ok (said_from_place start (header ∷ lines))

@@ -1,4 +1,4 @@
--- What is read of written media playlists (RFC 8216, 4.3.2 and 4.3.3).
+-- What written media playlists are read as (RFC 8216, 4.3.2 and 4.3.3).
 use Rattle.std.specs.Prelude.{◌≡◌, ℕ, ◌+◌, ◌-◌, ◌*◌, ◌/◌, ◌^◌, ◌<◌, ◌≤◌, true, ⊤, List, [], ◌∷◌, map, length, All, Some, Ok, IfSome, Option}
 use Rattle.std.specs.Prelude.{◌++◌, codes, decimal}
 use Rattle.url_parts.specs.{Addresses.IsAddress, declared.address.Part.Part, declared.range.Range.Range}
@@ -11,19 +11,19 @@ use Rattle.hls_writer.specs.{Finished.{media_text, target_of, track_items}, Line
 use Rattle.hls_writer.specs.{Playlists.{finished_text, followed_text}, Verified.IsVerified}
 use Rattle.laws_of_playlists.specs.ReadLines.{map_bytes}
 
--- ---- segments that are read as they were written
+-- ---- segments that are read back as they were written
 
 -- `decimal` writes at most 64 digits
 abbrev pub IsShortNumber : ℕ → Type 0
 IsShortNumber n = n < 10 ^ 64
 
--- a range isn't empty
+-- a byte range isn't empty
 pub record IsReadableRange (range : Range) : Type 0 where
   pub some : 0 < range.count
   pub count : IsShortNumber range.count
   pub first : IsShortNumber range.first
 
--- the address is resolved to itself against any base
+-- the URL resolves to itself against any base
 pub record IsReadablePart (part : Part) : Type 0 where
   pub address : IsAddress part.address
   pub range : IfSome part.range IsReadableRange
@@ -55,7 +55,7 @@ pub record AreReadable (digits : ℕ) (items : List Item) : Type 0 where
   pub each : All (IsReadableItem digits) items
   pub order : AreInOrder items
 
--- ---- what is read of them
+-- ---- what they are read as
 
 -- units of which 10 to a number of digits make a second, in nanoseconds
 abbrev pub nanos_of : (digits units : ℕ) → ℕ
@@ -70,7 +70,7 @@ segment_in section digits item = record {
   section = section;
 }
 
--- sections are counted from the playlist's first one on
+-- sections are counted from the playlist's first one
 abbrev pub segment_of : (base first digits : ℕ) → Item → MediaSegment
 segment_of base first digits item = segment_in (base + (item.section - first)) digits item
 
@@ -78,7 +78,7 @@ abbrev pub segments_of : (base digits : ℕ) → List Item → List MediaSegment
 segments_of base digits [] = []
 segments_of base digits (item ∷ items) = map (segment_of base item.section digits) (item ∷ items)
 
--- a text has the lines of which the values are told, whatever the URL that it was got from
+-- a text is read as a playlist, whatever its URL
 abbrev pub ReadsAs : (text url : List ℕ) → Media → Type 0
 ReadsAs text url media = (lines : List PlaylistLine) × ((lines_of text ≡ Ok lines) × (media_values url lines ≡ media))
 
@@ -91,7 +91,7 @@ abbrev pub DurationsAreRead : Type 0
 DurationsAreRead = (digits units : ℕ) → digits ≤ 9 → IsShortDuration digits units
     → duration_of (seconds_bytes digits units ++ codes ",") ≡ Some (nanos_of digits units)
 
--- wherever a range without an offset would begin
+-- wherever a byte range without an offset would begin
 abbrev pub RangesAreRead : Type 0
 RangesAreRead = (otherwise : Option ℕ) (range : Range) → IsReadableRange range → range_from otherwise (range_bytes range) ≡ Some range
 
@@ -123,7 +123,7 @@ FollowedAreRead = (head : Head) (items : List Item) (url : List ℕ) → IsReada
 
 -- ---- the playlists of a presentation
 
--- what initializes segments, and each address that is told for one of them
+-- the init segment, and each URL of a segment
 pub record IsReadableContent (content : Content) : Type 0 where
   pub initialization : IsReadablePart content.initialization
   pub parts : (x : Timing) (part : Part) → part_of_timing content.runs x ≡ Ok part → IsReadablePart part
@@ -137,7 +137,7 @@ track_media p digits track = record {
   segments = map (λ item. segment_in item.section digits item) (track_items p (10 ^ digits) track);
 }
 
--- no duration's whole seconds have more than 20 digits
+-- the whole seconds of durations have at most 20 digits
 abbrev pub AreShort : Presented → (digits track : ℕ) → Type 0
 AreShort p digits track = IsShortDuration digits (longest_of p (10 ^ digits) track)
 

@@ -1,4 +1,4 @@
--- The files that are written of a presentation, and what they mean together (RFC 8216, 4.3).
+-- The files that are written for a presentation, and what they mean together (RFC 8216, 4.3).
 use Rattle.std.specs.Prelude.{◌≡◌, ℕ, ◌^◌, ◌<◌, ◌≤◌, true, List, [], ◌∷◌, ◌++◌, codes, length, Some}
 use Rattle.bridge_io.specs.{Names.is_name, Outside.Files}
 use Rattle.url_parts.specs.Addresses.{folder_of}
@@ -12,13 +12,13 @@ use Rattle.laws_of_playlists.specs.{ReadMedia.{IsReadableTrack, ReadsAs, track_m
 abbrev pub master_name : List ℕ
 master_name = codes "master.m3u8"
 
--- what stands before the names of the files, nothing or a folder with its `/`, so that they are names of a store
+-- the prefix of the files' names, empty or a folder with its `/`, so that they are names of a store
 pub record HoldsFiles (prefix : List ℕ) (tracks : ℕ) : Type 0 where
   pub folder : folder_of prefix ≡ prefix
   pub master : is_name (prefix ++ master_name) ≡ true
   pub playlists : (t : ℕ) → t < tracks → is_name (prefix ++ playlist_name t) ≡ true
 
--- a presentation's master, and beside it the playlist of each track
+-- a presentation's master playlist, and beside it the media playlist of each track
 pub record AreWritten (files : Files) (prefix : List ℕ) (p : Presented) (digits : ℕ) : Type 0 where
   pub master : files (prefix ++ master_name) ≡ Some (master_text p)
   pub playlists : (t : ℕ) → t < length p.tracks → files (prefix ++ playlist_name t) ≡ Some (media_text p digits t)
@@ -28,7 +28,7 @@ abbrev pub FoldersHoldFiles : Type 0
 FoldersHoldFiles = (folder : List ℕ) (tracks : ℕ) → is_name folder ≡ true → is_name (folder ++ 47 ∷ master_name) ≡ true
     → ((t : ℕ) → t < tracks → is_name (folder ++ 47 ∷ playlist_name t) ≡ true) → HoldsFiles (folder ++ 47 ∷ []) tracks
 
--- A master's files under a folder mean what a presentation means, with each time rounded down.
+-- The files of a master playlist under a folder mean what a presentation means, with each time rounded down.
 abbrev pub MeanTheSame : Files → (folder url : List ℕ) → Presented → (digits : ℕ) → Type 0
 MeanTheSame files folder url p digits = (m : Meaning) × ((hls_meaning files folder url ≡ Some m) × SameFloor (10 ^ digits) (meaning_of p) m)
 
@@ -39,20 +39,20 @@ pub record IsWritable (p : Presented) (digits : ℕ) : Type 0 where
   pub ordered : SegmentsEndInTurn p
   pub tracks : AreWritable p.tracks
 
--- of a finished one
+-- for VOD
 pub record IsReadable (p : Presented) (digits : ℕ) : Type 0 where
   pub writable : IsWritable p digits
   pub playlists : (t : ℕ) → t < length p.tracks → IsReadableTrack p digits t
 
--- ---- whatever else the playlists tell
+-- ---- whatever else the playlists contain
 
--- a file is a playlist that is read with these segments, whatever the URL that it was got from
+-- a file is a playlist that is read with these segments, whatever its URL
 pub record IsPlaylistOf (files : Files) (name : List ℕ) (segments : List MediaSegment) : Type 0 where
   pub text : List ℕ
   pub there : files name ≡ Some text
   pub reads : (url : List ℕ) → (media : Media) × (ReadsAs text url media × (media.segments ≡ segments))
 
--- a presentation's master, and beside it a playlist of the segments of each track
+-- a presentation's master playlist, and beside it a media playlist with the segments of each track
 pub record HoldTracks (files : Files) (prefix : List ℕ) (p : Presented) (digits : ℕ) : Type 0 where
   pub master : files (prefix ++ master_name) ≡ Some (master_text p)
   pub playlists : (t : ℕ) → t < length p.tracks → IsPlaylistOf files (prefix ++ playlist_name t) (track_media p digits t).segments
@@ -63,9 +63,9 @@ TracksMeanTheSame = (p : Presented) (digits : ℕ) (files : Files) (folder prefi
     → HoldsFiles prefix (length p.tracks) → HoldTracks files prefix p digits
     → MeanTheSame files folder (folder ++ (prefix ++ master_name)) p digits
 
--- ---- finished presentations
+-- ---- VOD presentations
 
--- what is written of a presentation means what it means
+-- what is written for a presentation means what it means
 abbrev pub WrittenMeanTheSame : Type 0
 WrittenMeanTheSame = (p : Presented) (digits : ℕ) (files : Files) (folder prefix : List ℕ) → IsReadable p digits → folder_of folder ≡ folder
     → HoldsFiles prefix (length p.tracks) → AreWritten files prefix p digits

@@ -1,5 +1,5 @@
-//! What is written of an MPD as playlists is read as what it was written from, and means the same; so too where its files have an
-//! index inside. Laws: the functions do nothing, and what they ensure is the law.
+//! The playlists that are written for an MPD are read back as what they were written from, and mean the same; also where its
+//! files have a `sidx`. Laws: the functions do nothing, and what they ensure is the law.
 #![tactic(auto)]
 
 mod indexes;

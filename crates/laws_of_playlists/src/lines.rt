@@ -1,7 +1,7 @@
 // Laws of written lines.
 ghost use Rattle.laws_of_playlists.specs.ReadLines.{WrittenLinesAreRead};
 
-/// A reader is told of written lines what they say, each at its place, where they are of printable ASCII, don't end by a
+/// Written lines are read back with their values, each at its position, where they are printable ASCII, don't end with a
 /// space, and no URI is empty or begins with `#`.
 pub fn written_lines_are_read()
     ensures { WrittenLinesAreRead }

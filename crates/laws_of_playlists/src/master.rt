@@ -1,7 +1,7 @@
-// The law of written masters.
+// The law of written master playlists.
 ghost use Rattle.laws_of_playlists.specs.Master.{MasterIsRead};
 
-/// A reader is told of a written master the tracks of which it was written, in their order, each with its kind, its
+/// A written master playlist is read back as the tracks for which it was written, in order, each with its kind, its
 /// language and the name of its playlist beside the master (RFC 8216 4.3.4).
 pub fn written_masters_are_read()
     ensures { MasterIsRead }

@@ -13,8 +13,8 @@ use hls_meaning::sections_rise;
 use mpd_presentation::static_mpds_are_finished;
 use presentation::presentations_mean_what_they_list;
 
-/// What is read of a presentation's playlists means what the presentation means, with each time rounded down to the unit
-/// that durations are written in.
+/// A presentation's playlists, read back, mean what the presentation means, with each time rounded down to the unit that
+/// durations are written in.
 pub fn read_playlists_mean_the_same()
     ensures { ReadMeanTheSame }
 {
@@ -23,8 +23,8 @@ pub fn read_playlists_mean_the_same()
     presentations_mean_what_they_list();
 }
 
-/// Files with the text of a presentation's master, and for each track a playlist with its segments, mean what the presentation
-/// means, with each time rounded down, whatever else the playlists tell. A folder of a store can hold them.
+/// Files with the text of a presentation's master playlist, and for each track a playlist with its segments, mean what the
+/// presentation means, with each time rounded down, whatever else the playlists contain. A folder of a store can hold them.
 pub fn tracks_mean_the_same()
     ensures files { TracksMeanTheSame }
     ensures folders { FoldersHoldFiles }
@@ -33,7 +33,7 @@ pub fn tracks_mean_the_same()
     read_playlists_mean_the_same();
 }
 
-/// Files with the texts of a finished presentation's master and playlists do.
+/// So do files with the texts of a VOD presentation's master and media playlists.
 pub fn written_playlists_mean_the_same()
     ensures { WrittenMeanTheSame }
 {
@@ -41,8 +41,8 @@ pub fn written_playlists_mean_the_same()
     tracks_mean_the_same();
 }
 
-/// The master and the playlists that are written of a static MPD mean what its presentation means, with each time rounded
-/// down to the unit that durations are written in.
+/// The playlists that are written for a static MPD mean what its presentation means, with each time rounded down to the
+/// unit that durations are written in.
 pub fn written_means_the_same()
     ensures { WrittenMeansTheSame }
 {

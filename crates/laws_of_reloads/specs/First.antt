@@ -1,4 +1,4 @@
--- What is written of a first MPD, and what it means (ISO/IEC 23009-1, 5.3; RFC 8216, 4.3).
+-- What is written for a first MPD, and what it means (ISO/IEC 23009-1, 5.3; RFC 8216, 4.3).
 use Rattle.std.specs.Prelude.{◌≡◌, ℕ, ℤ, List, [], ◌∷◌, ◌++◌, length, Some, Ok}
 use Rattle.bridge_io.specs.Outside.{Files}
 use Rattle.url_parts.specs.Addresses.{folder_of}
@@ -8,13 +8,13 @@ use Rattle.live_meaning.specs.Playlists.{playlist_of}
 use Rattle.laws_of_playlists.specs.SameFiles.{HoldsFiles, MeanTheSame, master_name}
 use Rattle.laws_of_reloads.specs.Laws.{IsFollowed}
 
--- the master of the first MPD, and beside it the playlist of each track
+-- the master playlist of the first MPD, and beside it the media playlist of each track
 pub record HoldState (files : Files) (prefix : List ℕ) (s : State) : Type 0 where
   pub master : files (prefix ++ master_name) ≡ Some (master_text s.common.opened)
   pub playlists : (t : ℕ) (playlist : FollowedPlaylist) → playlist_of s t ≡ Some playlist
       → files (prefix ++ playlist_name t) ≡ Some (live_text playlist)
 
--- They mean what the MPD means at its instant, with each time rounded down.
+-- They mean what the MPD means at its time, with each time rounded down.
 abbrev pub FirstFilesMeanTheSame : Type 0
 FirstFilesMeanTheSame = (terms : Terms) (mpd : Values) (now : ℤ) (s : State) (files : Files) (folder prefix : List ℕ)
     → IsFollowed terms (Refresh mpd now ∷ []) → begun_of terms mpd now ≡ Ok s → folder_of folder ≡ folder

@@ -1,4 +1,4 @@
--- What is read of the written playlists of a followed presentation.
+-- What the written playlists of a followed presentation are read as.
 use Rattle.std.specs.Prelude.{◌≡◌, ℕ, ◌≤◌, All, List, [], ◌∷◌, ◌++◌, length, Option, Some, None, Ok}
 use Rattle.url_parts.specs.Addresses.{IsAddress}
 use Rattle.mpd_tree.specs.{Trees.Element, Meaning.reading_of}
@@ -9,9 +9,9 @@ use Rattle.live_meaning.specs.{Updates.{Terms, Update, Values, mpd_of}, States.{
 use Rattle.live_meaning.specs.{Playlists.{FollowedPlaylist, live_text, playlist_of}, Laws.{Shows, accepted_of, media_of}}
 use Rattle.laws_of_playlists.specs.{Origins.IsOfBytes, ReadMedia.ReadsAs}
 
--- ---- what a run follows
+-- ---- the updates of a run
 
--- an MPD that was read of bytes, and of which no rule refuses anything
+-- a valid MPD that was read from bytes
 pub record IsRead (mpd : Values) : Type 0 where
   pub bytes : List ℕ
   pub are : IsOfBytes bytes
@@ -26,7 +26,7 @@ IsReadIfAny (Some mpd) = IsRead mpd
 abbrev pub AreRead : List Update → Type 0
 AreRead updates = All (λ u. IsReadIfAny (mpd_of u)) updates
 
--- MPDs from an address, with at most 9 decimals of a second and at most 10,000,000 updates
+-- MPDs from a URL, with at most 9 decimals of a second and at most 10,000,000 updates
 pub record IsFollowed (terms : Terms) (updates : List Update) : Type 0 where
   pub url : IsAddress terms.url
   pub digits : terms.digits ≤ 9
@@ -41,7 +41,7 @@ FollowedTextsAreRead = (terms : Terms) (history : List Update) (s : State) (t : 
     → IsFollowed terms history → Shows terms history s → playlist_of s t ≡ Some playlist
     → ReadsAs (live_text playlist) url (media_of playlist)
 
--- two texts are read as playlists of which the second may take the first one's place
+-- two texts are read as playlists, the second of which is a valid update of the first
 pub record Reloads (old new url : List ℕ) : Type 0 where
   pub before : Media
   pub after : Media
@@ -49,8 +49,8 @@ pub record Reloads (old new url : List ℕ) : Type 0 where
   pub new_is : ReadsAs new url after
   pub lawful : IsLawful before after
 
--- Some updates come one after another, of which those are accepted that may follow the accepted ones before, and then one that is
--- accepted: the playlists of a track before and behind that one.
+-- Some updates come one after another, each accepted where it can follow the accepted ones before, and then one that is accepted:
+-- the playlists of a track before and after that one.
 pub record IsUpdate (terms : Terms) (updates : List Update) (u : Update) (t : ℕ) (old new : FollowedPlaylist) : Type 0 where
   pub followed : IsFollowed terms (updates ++ u ∷ [])
   pub accepted : update_refusal terms (accepted_of terms updates) u ≡ None
@@ -61,12 +61,12 @@ pub record IsUpdate (terms : Terms) (updates : List Update) (u : Update) (t : �
   pub old_is : playlist_of before t ≡ Some old
   pub new_is : playlist_of after t ≡ Some new
 
--- the new text lawfully reloads the former one
+-- the new text is a valid update of the previous one
 abbrev pub FollowedTextsReload : Type 0
 FollowedTextsReload = (terms : Terms) (updates : List Update) (u : Update) (t : ℕ) (old new : FollowedPlaylist) (url : List ℕ)
     → IsUpdate terms updates u t old new → Reloads (live_text old) (live_text new) url
 
--- so does what a reader gives that refuses neither
+-- so are the results of a reader, where it rejects neither
 abbrev pub ReadTextsReload : Type 0
 ReadTextsReload =
     (terms : Terms) (updates : List Update) (u : Update) (t : ℕ) (old new : FollowedPlaylist) (url : List ℕ) (before after : Media)

@@ -1,5 +1,5 @@
-//! Each written playlist of a followed presentation is read as what it was written from, and may take the place of the one
-//! before it. Laws: the functions do nothing, and what they ensure is the law.
+//! Each written playlist of a followed presentation is read back as what it was written from, and is a valid update of the
+//! one before it. Laws: the functions do nothing, and what they ensure is the law.
 #![tactic(auto)]
 
 mod reloads;

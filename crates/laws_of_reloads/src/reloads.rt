@@ -16,8 +16,8 @@ use mpd_rules::laws::period_ids_differ;
 use presentation::presentations_mean_what_they_list;
 use reload_law::rules_are_sentences;
 
-/// The text of each playlist of an accepted history of MPDs that were read is read as the playlist that it was written
-/// from, whatever the URL that it was got from.
+/// For an accepted history of MPDs that were read, the text of each playlist is read back as the playlist that it was
+/// written from, whatever its URL.
 pub fn followed_texts_are_read()
     ensures { FollowedTextsAreRead }
 {
@@ -32,8 +32,8 @@ pub fn followed_texts_are_read()
     playlists_are_read_again();
 }
 
-/// Where an update is accepted after others, what the new text of each track is read as may take the place of what the
-/// former text is read as (RFC 8216, 6.2). So may what a reader of playlists gives, where it refuses neither.
+/// Where an update is accepted after others, each track's new text is read as a valid update of what its previous text
+/// is read as (RFC 8216, 6.2). So are the results of a reader of playlists, where it rejects neither.
 pub fn followed_texts_reload()
     ensures texts { FollowedTextsReload }
     ensures read { ReadTextsReload }
@@ -44,8 +44,8 @@ pub fn followed_texts_reload()
     rules_are_sentences();
 }
 
-/// The master and the playlists that are written of a first MPD that was read mean what its presentation means at its instant,
-/// with each time rounded down to the unit that durations are written in.
+/// The playlists that are written for a first MPD that was read mean what its presentation means at its time, with each time
+/// rounded down to the unit that durations are written in.
 pub fn first_files_mean_the_same()
     ensures { FirstFilesMeanTheSame }
 {

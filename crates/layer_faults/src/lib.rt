@@ -1,4 +1,4 @@
-//! Why playlists and media files are refused, for the layers that judge them and for those that tell it.
+//! Why playlists and media files are rejected, for the layers that check them and for those that report it.
 #![tactic(auto)]
 
 mod hls;

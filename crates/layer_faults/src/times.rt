@@ -1,18 +1,18 @@
-// Why a media file tells no time.
+// Why a media file gives no decode time.
 use box_reader::BoxFault;
 use thiserror::Error;
 
-/// Why a media file tells no time. The variants are tried in their order.
+/// Why a media file gives no decode time. The variants are tried in their order.
 #[derive(Clone, Copy, Debug, PartialEq, Eq, Error)]
 pub enum FileFault {
     /// The store has no such file.
     #[error("there is no such file")]
     Absent,
-    /// The bytes end inside a box, before what is looked for, or a box is shorter than its header or than its fields. The
-    /// former is tried first, and of either the one at the least place.
+    /// The bytes end inside a box, before what is searched for, or a box is shorter than its header or than its fields.
+    /// The former is tried first, and of each the one at the least offset.
     #[error("the bytes are no boxes up to a time")]
     Boxes(BoxFault),
-    /// A box isn't there, or has a version above 1.
+    /// A box is missing, or has a version above 1.
     #[error("a box is missing")]
     Missing,
     /// There isn't exactly one track.

@@ -1,4 +1,5 @@
-//! The leaves over a table: a row of standard input is a call, and a line of standard output the row and what it answers.
+//! Calls of the lowest crates over a table of test cases: a row of standard input is a call, and a line of standard
+//! output the row and its result.
 //!
 //! A row is fields with a tab between them. In a field `\t`, `\n`, `\r`, `\0` and `\\` stand for a tab, a line feed, a
 //! carriage return, a byte 0 and a `\`. An empty line prints one.
@@ -26,7 +27,7 @@ fn main(rt: HostRuntime) -> io::Result<()> {
     out.flush()
 }
 
-/// A row and what it answers.
+/// A row and its result.
 fn line(alloc: Global, row: &str) -> Result<String, NoMemory> {
     let mut line = String::from_str(alloc, row)?;
     if !row.is_empty() {
@@ -36,7 +37,7 @@ fn line(alloc: Global, row: &str) -> Result<String, NoMemory> {
     Ok(line)
 }
 
-/// A field as the text that it stands for.
+/// A field, with its escapes resolved.
 fn field(alloc: Global, written: &str) -> Result<String, NoMemory> {
     let mut text = String::with_capacity(alloc, written.len())?;
     let mut is_escaped = false;
@@ -63,7 +64,7 @@ fn unescaped(letter: char) -> char {
     }
 }
 
-/// What the call of a row answers: its value, or the name of its fault.
+/// The result of a row's call: its value, or the name of its fault.
 fn answer(alloc: Global, row: &str) -> Result<String, NoMemory> {
     let mut fields = row.split('\t');
     let call = fields.next().unwrap_or("");

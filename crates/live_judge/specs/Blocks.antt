@@ -15,11 +15,11 @@ pub record IsWithin (block : Block) (track : LiveTrack) : Type 0 where
   pub rises : block.begin ≤ block.end
   pub within : block.end ≤ length track.facts.items
 
--- all before a place are of Periods before one
+-- all segments before an index are of Periods before one
 abbrev pub StandBefore : (place : ℕ) → List Segment → (end : ℕ) → Type 0
 StandBefore place xs end = (i : ℕ) (x : Segment) → slice_get xs i ≡ Some x → i < end → x.value.place < place
 
--- the first place of a segment of a later Period
+-- the first index of a segment of a later Period
 pub record IsEndOf (place : ℕ) (xs : List Segment) (end : ℕ) : Type 0 where
   pub within : end ≤ length xs
   pub before : StandBefore (place + 1) xs end
@@ -28,13 +28,13 @@ pub record IsEndOf (place : ℕ) (xs : List Segment) (end : ℕ) : Type 0 where
 abbrev pub is_of : (place section : ℕ) → Segment → Bool
 is_of place section x = x.value.place == place && is_in section x
 
--- those between two places are of a Period and a section, and the one before them isn't
+-- those between two indices are of a Period and a section, and the one before them isn't
 pub record AreOf (place section : ℕ) (xs : List Segment) (begin end : ℕ) : Type 0 where
   pub rises : begin ≤ end
   pub all : (i : ℕ) (x : Segment) → slice_get xs i ≡ Some x → begin ≤ i → i < end → is_of place section x ≡ true
   pub stops : (x : Segment) → 0 < begin → slice_get xs (begin - 1) ≡ Some x → is_of place section x ≡ false
 
--- the segments of a Period with the greatest section number, behind which all are of later ones
+-- the segments of a Period with the greatest section number; all after them are of later Periods
 pub record IsBlock (place : ℕ) (track : LiveTrack) (block : Block) : Type 0 where
   pub are : latest_in place (kept_in track) ≡ in_block block track
   pub inside : IsWithin block track

@@ -1,4 +1,4 @@
--- What an MPD alone breaks, by the places of its Periods.
+-- What an MPD itself breaks, by the indices of its Periods.
 use Rattle.std.specs.Prelude.{◌≡◌, ℕ, ◌+◌, ◌<◌, ◌==◌, not, Bool, true, false, List, [], ◌∷◌, ◌++◌, length, slice_get, Option, Some, None}
 use Rattle.std.specs.{Prelude.{IfSome, ◌&&◌, unsigned_abs, if◌then◌else◌}, Option.option_map_or}
 use Rattle.exact_time.specs.Time.{Time}
@@ -9,12 +9,12 @@ use Rattle.live_meaning.specs.{Updates.Values, Segments.place_of, Known.{Attribu
 use Rattle.live_meaning.specs.{Histories.Common, Refusals.{Changed, Moved, Refusal, are_alike, ids_in, is_changed, moved_told, older_than}}
 use Rattle.live_meaning.specs.Refusals.{starts_otherwise, told_if}
 
--- the place that the first of some ids has among the known ones, or behind them
+-- the index of the first of some ids among the known ones, or after them
 abbrev pub first_place : (known ids : List (List ℕ)) → ℕ
 first_place known [] = length known
 first_place known (id ∷ ids) = place_of known id
 
--- the place from which some ids go on, where they do and each stands once
+-- the index from which some ids continue the known ones, where they do and none is repeated
 abbrev pub place_among : (known ids : List (List ℕ)) → Option ℕ
 place_among known ids = if are_once ids && goes_on known ids then Some (first_place known ids) else None
 
@@ -26,7 +26,7 @@ attributes_by offset initialization = record {
   initialization = initialization;
 }
 
--- a known Period has other attributes, or begins at another time
+-- a known Period has different attributes, or begins at another time
 abbrev pub has_other : List Known → Presented → (place section : ℕ) → Bool
 has_other known p place s = option_map_or (λ (k : Known). not (all_same k.attributes (attributes_at p s)))
     (slice_get known (place + s)) false
@@ -42,12 +42,12 @@ moved_at known p place s = moved_from p place s (slice_get known (place + s))
 abbrev pub AreUnmoved : List Known → Presented → (place : ℕ) → Type 0
 AreUnmoved known p place = (s : ℕ) → s < length p.sections → IfSome (slice_get known (place + s)) (λ (k : Known). k.start ≡ start_of p s)
 
--- what an update's MPD breaks, but for kept segments
+-- what an update's MPD breaks, except kept segments
 abbrev pub listed_told : Common → Option Values → Presented → List Refusal
 listed_told c None p = []
 listed_told c (Some mpd) p = older_than c.published mpd.facts.publish_time ++ told_if (is_changed c mpd p) Changed ++ moved_told c p
 
--- the place of the first Period of an MPD that changes nothing; without an MPD that of the one in force
+-- the index of the first Period of an MPD that changes nothing; without an MPD that of the one in force
 pub record IsPlaceOf (c : Common) (mpd : Values) (p : Presented) (place : ℕ) : Type 0 where
   pub starts : starts_otherwise c mpd ≡ false
   pub alike : are_alike c.opened.tracks p.tracks ≡ true

@@ -1,4 +1,4 @@
--- An update that comes to a session, and what it would leave.
+-- An update of a session, and its result.
 use Rattle.live_judge.specs.declared.coming.Coming.TheVariants as comes
 use Rattle.std.specs.Prelude.{◌≡◌, ℕ, ◌<◌, ◌≤◌, ℤ, int_lt, Bool, false, true, List, [], ◌++◌, length, map, slice_get, Option, Some, Ok}
 use Rattle.std.specs.Prelude.{unwrap_or}
@@ -18,26 +18,26 @@ update_of (comes.Refresh mpd) now = Refresh (segments_mpd mpd.now) now
 update_of (comes.Reset mpd) now = Reset (segments_mpd mpd.now) now
 update_of comes.Tick now = Tick now
 
--- where the presentation comes from that would be in force: from the MPD, or it is in force already
+-- the origin of the presentation that would be in force: the MPD, or it is in force already
 abbrev pub Comes : Standing → Coming → Presented → ℤ → Type 0
 Comes s (comes.Refresh mpd) force now = presented_of (segments_mpd mpd.now) s.base (Some now) ≡ Ok force
 Comes s (comes.Reset mpd) force now = presented_of (segments_mpd mpd.now) s.base (Some now) ≡ Ok force
 Comes s comes.Tick force now = force ≡ unwrap_or s.newest s.opened
 
--- the refusals of what an update lists, by open ends and by its MPD but for kept segments
+-- the errors of what an update lists, by open ends and by its MPD, except kept segments
 abbrev pub ended_and_listed_told : Common → Option Values → Presented → List Refusal
 ended_and_listed_told c mpd p = map Presentation (range_faults p) ++ listed_told c mpd p
 
--- the refusals by the segments' times
+-- the errors by the segments' times
 abbrev pub timed_told : (is_reset : Bool) → Common → List Track → List Refusal
 timed_told is_reset c tracks = joint_told is_reset c tracks ++ long_told c 0 tracks ++ window_told (counts_kept c 0 tracks)
 
--- the refusals before those of addresses
+-- the errors before those of URLs
 abbrev pub told_before : State → Update → Presented → List Refusal
 told_before s u p = map Presentation (range_faults p) ++ mpd_told s (mpd_of u) p ++ timed_told (is_reset u)
     (common_with s.common u p) s.tracks
 
--- ---- an update whose presentation is judged
+-- ---- an update with its presentation
 
 abbrev pub p_of : Next → Presented
 p_of n = looked_at n.now n.force.now
@@ -45,16 +45,16 @@ p_of n = looked_at n.now n.force.now
 abbrev pub coming_of : Next → Common
 coming_of n = common_with (common_shown n.standing.now) (update_of n.coming n.now) (p_of n)
 
--- nothing is new of a track in any section
+-- a track has no new segments in any section
 abbrev pub IsQuietIn : Presented → (place t : ℕ) → Track → Type 0
 IsQuietIn p place t track = (s : ℕ) → s < length p.sections → new_timings p place track t s ≡ []
 
--- nothing is new of any track
+-- no track has new segments
 abbrev pub IsQuiet : Next → Type 0
 IsQuiet n = (t : ℕ) (track : LiveTrack) → slice_get n.tracks.now t ≡ Some track → IsQuietIn (p_of n) n.place t (track_shown track)
 
--- No static MPD came before it, it doesn't go back in time, its open ends break no limit, and its Periods go on behind the known ones.
--- Where it is said to be quiet, it is.
+-- No static MPD came before it, it doesn't go back in time, its open ends break no limit, and its Periods continue the known ones.
+-- Where `is_quiet` is set, it is quiet.
 pub record IsNext (n : Next) : Type 0 where
   pub live : IsLive n.standing.now n.tracks.now
   pub unended : is_finished (in_force n.standing.now) ≡ false
@@ -79,6 +79,6 @@ pub record IsTrackNext (l : TrackNext) : Type 0 where
   pub next : IsNext l.next.now
   pub there : slice_get (l.next.now).tracks.now l.index ≡ Some l.track.now
 
--- no gap or overlap behind a last segment is told
+-- there is no gap or overlap after a last segment
 abbrev pub IsJoined : Next → Type 0
 IsJoined n = joint_told (is_reset (update_of n.coming n.now)) (coming_of n) (map track_shown n.tracks.now) ≡ []

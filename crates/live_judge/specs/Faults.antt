@@ -1,4 +1,4 @@
--- Why an update may not follow, as the calls tell it.
+-- Why an update is rejected, as the calls return it.
 use Rattle.presentation.specs.declared.fault.PresentationFault.TheVariants as presented
 use Rattle.live_meaning.specs.Refusals as rules
 use Rattle.live_judge.specs.declared.fault.RefreshFault.TheVariants as faults
@@ -10,7 +10,7 @@ use Rattle.presentation.specs.{declared.fault.PresentationFault.PresentationFaul
 use Rattle.live_meaning.specs.Refusals.{Refusal}
 use Rattle.live_judge.specs.declared.fault.RefreshFault.{RefreshFault}
 
--- the refusal that a fault tells; want of memory tells none
+-- the refusal of a fault; `None` for out of memory
 abbrev pub told : RefreshFault → Option Refusal
 told (faults.ClockBack former now) = Some (rules.ClockBack former now)
 told (faults.Older former new) = Some (rules.Older former new)
@@ -26,12 +26,12 @@ told (faults.Presentation fault) = option_map rules.Presentation (refusal fault)
 told faults.Memory = None
 told (faults.Uneven track first last) = Some (rules.Uneven track first last)
 
--- a presentation's fault, where its want of memory is the update's
+-- a presentation's fault, where its out of memory is the update's
 abbrev pub of_presentation : PresentationFault → RefreshFault
 of_presentation presented.Memory = faults.Memory
 of_presentation fault = faults.Presentation fault
 
--- a call that takes no memory tells the first of some refusals, and nothing where there is none
+-- a call that doesn't allocate returns the first of some errors, and `Ok` where there is none
 abbrev pub Tells : RefreshFault → List Refusal → Type 0
 Tells fault refusals = (first_of refusals ≡ told fault) × IsSome (told fault)
 

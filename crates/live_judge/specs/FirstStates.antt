@@ -1,4 +1,4 @@
--- What holds of the state that a first MPD leaves.
+-- What holds for the state after a first MPD.
 use Rattle.std.specs.Prelude.{◌≡◌, ℤ, Some, Ok}
 use Rattle.live_meaning.specs.{Updates.{Terms, Values}, Known.ids_of, States.State, Refusals.{begun_of, ids_in}, Laws.IsTyped}
 use Rattle.live_judge.specs.{Known.StandsAt, Sound.IsSound}

@@ -1,4 +1,4 @@
--- The Periods that were seen, as they are kept.
+-- The Periods that were seen, as they are stored.
 use Rattle.std.specs.Prelude.{◌≡◌, ℕ, ◌≤◌, true, false, List, length, map, drop, slice_get, bytes_eq, Option, Some, None, if◌then◌else◌}
 use Rattle.std.specs.Option.{option_map_or}
 use Rattle.mpd_rules.specs.Laws.{are_once}
@@ -11,16 +11,16 @@ attributes_shown a = record { timescale = a.timescale; time_offset = a.time_offs
 abbrev pub known_shown : KnownPeriod → Known
 known_shown k = record { id = k.id; start = k.start; attributes = map attributes_shown k.attributes.items }
 
--- each of some ids is found at its place
+-- each of some ids is found at its index
 abbrev pub IsIndex : (places : List ℕ → Option ℕ) → (ids : List (List ℕ)) → Type 0
 IsIndex places ids = (place : ℕ) (id : List ℕ) → slice_get ids place ≡ Some id → places id ≡ Some place
 
--- a place where an id stands
+-- an index, where the id is at it
 abbrev pub if_there : (ids : List (List ℕ)) → (id : List ℕ) → Option ℕ → Option ℕ
 if_there ids id None = None
 if_there ids id (Some place) = if option_map_or (λ own. bytes_eq own id) (slice_get ids place) false then Some place else None
 
--- the ids in force are the known ones from a place on, and no known one stands twice
+-- the ids in force are the known ones from an index on, and no known one is repeated
 pub record StandsAt (known ids : List (List ℕ)) (place : ℕ) : Type 0 where
   pub once : are_once known ≡ true
   pub within : place ≤ length known

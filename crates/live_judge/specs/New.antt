@@ -1,4 +1,4 @@
--- What an update lists behind the last segments, section by section.
+-- What an update lists after the last segments, section by section.
 use Rattle.std.specs.{Prelude.{◌≡◌, ℕ, ◌+◌, Bool, true, List, [], map, filter, slice_get, IfSome, Some}, Option.option_map_or}
 use Rattle.timeline.specs.{Expansions.Timing, Listed.listed_from, Steady.IsWithinLimits}
 use Rattle.presentation.specs.Presented.{Presented, content_at, listed_at, start_of, window_of}
@@ -6,7 +6,7 @@ use Rattle.followed.specs.Durations.{durations, told_behind}
 use Rattle.live_meaning.specs.{Updates.unit_of, Segments.{Numbering, Segment, is_later, segment_with, timing_of}, Histories.Common}
 use Rattle.live_meaning.specs.{Histories.numbering_of, States.Track}
 
--- where the Period of a section has the place `place + section`
+-- the Period of a section has the index `place + section`
 abbrev pub is_new_in : (place : ℕ) → Track → (section : ℕ) → Timing → Bool
 is_new_in place track section x = option_map_or (λ last. is_later last track.place (place + section) x.end) track.last true
 
@@ -23,7 +23,7 @@ abbrev pub durations_in : Common → (place : ℕ) → Track → (track section 
 durations_in c place of track section =
     durations (told_behind (unit_of c.terms) of.last (new_in (numbering_of c) c.force place of track section))
 
--- the segments from a place on are the new ones
+-- the segments from an index on are the new ones
 abbrev pub StartsNew : Presented → (place : ℕ) → Track → (track section cursor : ℕ) → Type 0
 StartsNew p place of track section cursor =
     IfSome (content_at p section track) (λ content. listed_from cursor content.runs (window_of p section)

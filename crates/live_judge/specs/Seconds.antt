@@ -6,7 +6,7 @@ use Rattle.timeline.specs.declared.span.SpanRun.{SpanRun}
 abbrev pub second_end : SpanRun → Time
 second_end spans = ticks_after (time_of spans.first.end) spans.step
 
--- it may be given to a `Rounder`
+-- its end is a valid argument for a `Rounder`
 pub record IsSecondNear (spans : SpanRun) : Type 0 where
   pub near : IsAtMost (difference (second_end spans) (time_of spans.first.end)) (seconds 2000000)
   pub room : (spans.first.end.n +ℤ pos spans.step) <ℤ pos (2 ^ 64)

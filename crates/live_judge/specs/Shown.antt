@@ -1,4 +1,4 @@
--- What a session keeps, as the state that it shows.
+-- The value of a session as a state.
 use Rattle.std.specs.{Prelude.{ℕ, ◌-◌, List, [], ◌∷◌, length, map, slice_get, Option, option_map, unwrap_or}, Option.option_map_or}
 use Rattle.exact_time.specs.{Time.Time, Tick.time_of}
 use Rattle.url_parts.specs.declared.address.Part.{Part}
@@ -14,7 +14,7 @@ use Rattle.live_judge.specs.declared.standing.Standing.{Standing}
 abbrev pub part_of : MediaItem → Part
 part_of item = record { address = item.address; range = item.range }
 
--- a kept segment, of which what is written and what isn't stand side by side
+-- a kept segment, by its playlist item and what else is stored of it
 abbrev pub kept_of : MediaItem → Fact → Kept
 kept_of item fact = record {
   segment = record {
@@ -41,7 +41,7 @@ kepts_of (item ∷ items) (fact ∷ facts) = kept_of item fact ∷ kepts_of item
 abbrev pub last_kept : List Kept → Option Kept
 last_kept kept = slice_get kept (length kept - 1)
 
--- the last one that was listed is the last one that is kept
+-- the last one that was listed is the last kept one
 abbrev pub last_from : (first : Time) → Kept → Last
 last_from first k = record { section = k.segment.section; first = first; end = k.segment.end }
 
@@ -59,9 +59,9 @@ track_shown track = track_of track.first (time_of track.begin) (kepts_of track.i
 abbrev pub last_of : LastKept → Last
 last_of last = record { section = last.section; first = time_of last.begin; end = time_of last.end }
 
--- ---- what stands beside the tracks
+-- ---- the state without the tracks
 
--- the presentation in force, at the last instant
+-- the presentation in force, at the time of the last update
 abbrev pub in_force : Standing → Presented
 in_force s = looked_at s.instant (unwrap_or s.newest s.opened)
 

@@ -1,4 +1,4 @@
--- What holds of each state that accepted updates of typed MPDs leave, and of what shows one.
+-- What holds for each state after accepted updates of typed MPDs, and for its representation.
 use Rattle.std.specs.Prelude.{◌≡◌, ◌⊎◌, ℕ, ◌+◌, ◌*◌, ◌<◌, ◌≤◌, ℤ, pos, ◌-ℤ◌, false, true, List, [], ◌∷◌, length, map, slice_get, All}
 use Rattle.std.specs.Prelude.{IfSome, Option, Some, None, option_map}
 use Rattle.exact_time.specs.Time.{AreRising, IsAtMost, IsTime, before, nanoseconds, seconds}
@@ -12,7 +12,7 @@ use Rattle.live_judge.specs.Shown.{in_force, state_shown}
 
 -- ---- segments
 
--- A segment's Period is known, and begins where the segment was dated from. The segment ends behind the Period's start; and it has
+-- A segment's Period is known, and begins where the segment was dated from. The segment ends after the Period's start; and it has
 -- ended, unless a static MPD came, which lists all segments.
 pub record IsSegmentOf (c : Common) (x : Segment) : Type 0 where
   pub starts : option_map (λ (k : Known). k.start) (slice_get c.known x.value.place) ≡ Some x.value.period_start
@@ -21,7 +21,7 @@ pub record IsSegmentOf (c : Common) (x : Segment) : Type 0 where
   pub ended : is_finished c.force ≡ false
       → IsAtMost x.end (nanoseconds ((c.instant -ℤ availability_start_of c.opened) -ℤ pos x.value.period_start))
 
--- no segment stands in an earlier Period than one before it, or in the same one with a lower section number
+-- no segment is in an earlier Period than one before it, or in the same one with a lower section number
 abbrev pub DoesFollow : Segment → Segment → Type 0
 DoesFollow x y = (x.value.place < y.value.place) ⊎ ((x.value.place ≡ y.value.place) × (x.section ≤ y.section))
 
@@ -29,22 +29,22 @@ abbrev pub AreOrdered : List Segment → Type 0
 AreOrdered [] = Unit {0}
 AreOrdered (x ∷ xs) = All (DoesFollow x) xs × AreOrdered xs
 
--- each of some segments lasts, and their ends rise
+-- no segment ends before it begins, and their ends rise
 abbrev pub AreTimed : List Timing → Type 0
 AreTimed xs = All DoesLast xs × AreRising (map (λ x. x.end) xs)
 
 -- ---- a state
 
--- it stands in an earlier Period than the last one, or in the same one with no higher section number
+-- it is in an earlier Period than the last one, or in the same one with no higher section number
 abbrev pub IsUpTo : Last → (place : ℕ) → Segment → Type 0
 IsUpTo last place x = (x.value.place < place) ⊎ ((x.value.place ≡ place) × (x.section ≤ last.section))
 
--- all do, and there is none where none was listed
+-- all are, and there is none where none was listed
 abbrev pub AreUpTo : Option Last → (place : ℕ) → List Segment → Type 0
 AreUpTo None place xs = xs ≡ []
 AreUpTo (Some last) place xs = All (IsUpTo last place) xs
 
--- a track's segments stand in order, none behind its last one
+-- a track's segments are in order, none after its last one
 pub record IsSoundTrack (c : Common) (track : Track) : Type 0 where
   pub segments : All (IsSegmentOf c) (segments_of track.kept)
   pub ordered : AreOrdered (segments_of track.kept)
@@ -56,7 +56,7 @@ pub record IsSoundTrack (c : Common) (track : Track) : Type 0 where
 abbrev pub StartsAt : ℤ → Presented → Type 0
 StartsAt start p = IfSome p.following (λ f. f.availability_start ≡ start)
 
--- The Periods in force begin as they are known, and at each instant their segments are in order.
+-- The Periods in force begin as they are known, and at each time their segments are in order.
 pub record IsSound (s : State) : Type 0 where
   pub place : ℕ
   pub stands : StandsAt (ids_of s.common.known) (ids_in s.common.force) place
@@ -68,9 +68,9 @@ pub record IsSound (s : State) : Type 0 where
   pub timed : (now : ℤ) (section track : ℕ) → AreTimed (listed_at (looked_at now s.common.force) section track)
   pub tracks : All (IsSoundTrack s.common) s.tracks
 
--- ---- what shows one
+-- ---- its representation
 
--- what is written and what isn't stand side by side, and a segment is always kept
+-- the two buffers are parallel, and at least one segment is kept
 pub record IsPaired (track : LiveTrack) : Type 0 where
   pub paired : length track.items.items ≡ length track.facts.items
   pub some : 0 < length track.facts.items

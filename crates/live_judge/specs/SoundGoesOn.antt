@@ -1,4 +1,4 @@
--- What stays so of a state when an update is accepted.
+-- What stays true of a state when an update is accepted.
 use Rattle.std.specs.Prelude.{◌≡◌, ℕ, ◌*◌, ◌<◌, ◌≤◌, All, length, Ok}
 use Rattle.live_meaning.specs.{Updates.{Update, mpd_of}, Known.ids_of, Histories.Common, States.{State, Track}, Refusals.{ids_in, next_of}}
 use Rattle.live_judge.specs.{Changed.IsPlaceBy, Known.StandsAt, Sound.IsSound}
@@ -7,7 +7,7 @@ use Rattle.live_judge.specs.{Changed.IsPlaceBy, Known.StandsAt, Sound.IsSound}
 abbrev pub SoundStatesGoOn : Type 0
 SoundStatesGoOn = (s : State) (u : Update) (after : State) → IsSound s → next_of s u ≡ Ok after → IsSound after
 
--- the Periods in force stand from the place on that is found for them
+-- the Periods in force are at the index that is found for them
 abbrev pub PeriodsStandOn : Type 0
 PeriodsStandOn = (s : State) (u : Update) (after : State) (former place : ℕ)
     → StandsAt (ids_of s.common.known) (ids_in s.common.force) former
@@ -22,7 +22,7 @@ pub record NumbersFit (c : Common) : Type 0 where
 abbrev pub NumbersGoOn : Type 0
 NumbersGoOn = (s : State) (u : Update) (after : State) → IsSound s → NumbersFit s.common → next_of s u ≡ Ok after → NumbersFit after.common
 
--- a segment is kept, and no more than 20,000
+-- at least one segment is kept, and at most 20,000
 pub record IsKept (track : Track) : Type 0 where
   pub some : 0 < length track.kept
   pub few : length track.kept ≤ 20000

@@ -1,4 +1,4 @@
--- The printed durations of segments that are passed run by run.
+-- The printed durations of segments, run by run.
 use Rattle.std.specs.Prelude.{◌≡◌, ◌⊎◌, ℕ, ◌+◌, ◌≤◌, List, [], ◌∷◌, ◌++◌, slice_get, All, Some}
 use Rattle.exact_time.specs.{Time.{IsAtMost, IsTime, Time}, Tick.time_of, Equal.summed_up, Rounding.Rounding}
 use Rattle.timeline.specs.Expansions.{Timing}
@@ -9,7 +9,7 @@ use Rattle.live_judge.specs.{declared.times.NewTimes.NewTimes, declared.times.Ne
 abbrev pub left_of : NewTimes → List ℕ
 left_of t = durations_behind t.rounder t.walk
 
--- segments that may be given to a `Rounder` in turn
+-- segments whose ends are valid arguments for a `Rounder` in turn
 pub record IsPacedBy (walk : List Timing) (r : Rounding) (first : Time) (unit : ℕ) : Type 0 where
   pub first_is : r.first ≡ first
   pub unit_is : r.unit ≡ unit
@@ -20,7 +20,7 @@ pub record IsPacedBy (walk : List Timing) (r : Rounding) (first : Time) (unit : 
 abbrev pub IsPaced : NewTimes → Type 0
 IsPaced t = IsPacedBy t.walk t.rounder (time_of t.first) t.unit
 
--- the next segments are equally long, but the first one may follow on a gap
+-- the next segments are equally long, but the first one may follow a gap
 pub record IsRun (ds : List ℕ) (run : NewRun) : Type 0 where
   pub others : List ℕ
   pub is : ds ≡ run.first ∷ others

@@ -1,4 +1,4 @@
--- Rules that are tried of each track in turn.
+-- Rules that are checked for each track in turn.
 use Rattle.live_judge.specs.declared.walk.Rule.TheVariants as rules
 use Rattle.std.specs.Prelude.{ℕ, ◌+◌, ◌==◌, not, nat_lt, List, [], ◌∷◌, ◌++◌, flat_map}
 use Rattle.presentation.specs.Counting.{sections_of}
@@ -8,7 +8,7 @@ use Rattle.live_meaning.specs.Refusals.{steps_told, told_if, uneven_from}
 use Rattle.live_judge.specs.{declared.coming.Next.Next, declared.track.LiveTrack.LiveTrack, declared.walk.Rule.Rule, Changed.AreUnmoved}
 use Rattle.live_judge.specs.{Coming.{IsJoined, coming_of, p_of}, Long.longs_told, Rewriting.EndAtTimes, Shown.{common_shown, track_shown}}
 
--- what a rule wants to be tried
+-- what a rule requires
 abbrev pub IsReady : Rule → Next → Type 0
 IsReady rules.Rewritten n = EndAtTimes (p_of n) × AreUnmoved (n.standing.now).known (p_of n) n.place
 IsReady rules.Step n = Unit {0}
@@ -16,7 +16,7 @@ IsReady (rules.Even place) n = Unit {0}
 IsReady rules.Long n = IsJoined n
 IsReady rules.Room n = IsJoined n
 
--- what it tells of tracks of which the first one has a place
+-- the errors of tracks, given the index of the first one
 abbrev pub told_by : Rule → Next → (track : ℕ) → List Track → List Refusal
 told_by rules.Rewritten n t tracks = rewritten_told (common_shown n.standing.now) (p_of n) t tracks
 told_by rules.Step n t tracks = steps_told (coming_of n) t tracks

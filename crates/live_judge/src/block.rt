@@ -8,7 +8,7 @@ ghost use Rattle.live_judge.specs.Sound.{AreOrdered};
 use crate::LiveTrack;
 use timeline::Span;
 
-/// Kept segments that stand one behind another: their first place, and the one behind the last.
+/// A range of kept segments: the index of the first one, and the one after the last.
 #[derive(Clone, Copy)]
 pub(crate) struct Block {
     pub(crate) begin: usize,
@@ -25,7 +25,7 @@ impl Block {
 }
 
 impl LiveTrack {
-    /// The segments of a Period with the greatest section number. All before a place are of earlier Periods.
+    /// The segments of a Period with the greatest section number. All before index `from` are of earlier Periods.
     pub(crate) fn latest(&self, from: usize, place: usize) -> Block
         requires paired { length self.now.items.items ≡ length self.now.facts.items }
         requires ordered { AreOrdered (segments_in self.now) }
@@ -42,7 +42,7 @@ impl LiveTrack {
         Block { begin, end }
     }
 
-    /// The first place of a segment of a later Period.
+    /// The first index of a segment of a later Period.
     fn end_of(&self, from: usize, place: usize) -> usize
         requires paired { length self.now.items.items ≡ length self.now.facts.items }
         requires within { from ≤ length self.now.facts.items }
@@ -57,7 +57,7 @@ impl LiveTrack {
         end
     }
 
-    /// The place of the first of the segments of a Period and a section that stand right before a place.
+    /// The index of the first of the segments of a Period and a section that are directly before index `end`.
     fn begin_of(&self, end: usize, place: usize, section: u64) -> usize
         requires paired { length self.now.items.items ≡ length self.now.facts.items }
         requires within { end ≤ length self.now.facts.items }
@@ -74,7 +74,7 @@ impl LiveTrack {
         begin
     }
 
-    /// The segment of a block behind which some are left in it.
+    /// The segment of a block, by the number of segments after it.
     pub(crate) fn from_back(&self, block: Block, left: u64) -> Option<Span>
         requires { IsWithin block self.now }
         ensures { option_map timing_of result ≡ slice_get (reverse (times_of (in_block block self.now))) left }

@@ -26,7 +26,7 @@ use mpd_rules::Mpd;
 use presentation::{Presentation, Section, Track};
 use url_parts::Part;
 
-/// Judges the MPD of an update but for kept segments, and tells the place of the first Period in force.
+/// Checks the MPD of an update, except kept segments, and returns the index of the first Period in force.
 pub fn place_of(
     standing: &Standing,
     coming: Coming<'_>,
@@ -103,7 +103,7 @@ fn check_changed(
     Ok(place)
 }
 
-/// Whether an MPD begins to be available at another time, or a dynamic one doesn't say when.
+/// Whether an MPD has another availabilityStartTime, or a dynamic one has none.
 fn starts_otherwise(standing: &Standing, mpd: &Mpd) -> bool
     requires { standing.now.availability_start ≡ availability_start_of standing.now.opened }
     ensures { result ≡ rules.starts_otherwise (common_shown standing.now) (segments_mpd mpd.now) }
@@ -129,8 +129,8 @@ fn lack_ids(mpd: &Mpd) -> bool
 
 // ---- ids
 
-/// The place from which Periods go on: the known ones from there on come first, and the others were never seen. There is
-/// none where they don't, or an id stands twice.
+/// The index from which Periods continue the known ones: the known ones from there on come first, and the others were
+/// never seen. `None` where that isn't so, or an id is repeated.
 #[tactic(auto, using(crate::proofs::Places::goes_on_first))]
 fn place_among(known: &KnownPeriods, sections: &[Section]) -> Option<usize>
     requires { are_once (ids_of known.now) ≡ true }
@@ -156,7 +156,7 @@ fn first_place(known: &KnownPeriods, sections: &[Section]) -> usize
     }
 }
 
-/// Whether no id stands twice.
+/// Whether no id is repeated.
 fn are_once(sections: &[Section]) -> bool
     ensures { result ≡ are_once (map (λ section. section.id) sections.now) }
 {
@@ -191,7 +191,7 @@ fn go_on_from(known: &KnownPeriods, sections: &[Section], place: usize) -> bool
     begin_with(known, sections, place) && are_new(known, &sections[known.len() - place..])
 }
 
-/// Whether the known Periods from a place on come first.
+/// Whether the known Periods from an index on come first.
 #[tactic(auto, using(crate::proofs::Walks::in_lists))]
 fn begin_with(known: &KnownPeriods, sections: &[Section], place: usize) -> bool
     requires { place ≤ length known.now }
@@ -267,7 +267,7 @@ fn is_same_language(one: &Option<Text>, other: &Option<Text>) -> bool
 
 // ---- known Periods
 
-/// Whether a known Period has other attributes.
+/// Whether a known Period has different attributes.
 fn have_others(standing: &Standing, force: &Presentation, place: usize) -> bool
     requires room { place + length force.now.sections < 2 ^ 64 }
     requires once { are_once (ids_of standing.now.known) ≡ true }

@@ -1,4 +1,4 @@
-// An update that comes to a session.
+// Updates of a session.
 ghost use Rattle.std.specs.Prelude.{◌≡◌, ◌<◌, length, pos, slice_get, Some};
 
 use crate::changed::place_of;
@@ -8,14 +8,14 @@ use mpd_presentation::presentations_show_their_mpd;
 use mpd_rules::Mpd;
 use presentation::{Presentation, answers_allow_listings};
 
-/// What comes: a new version of the MPD; the same behind versions that were missed; or an instant alone.
+/// An update: a new version of the MPD; the same after versions that were missed; or only the time.
 #[derive(Clone, Copy)]
 pub enum Coming<'a> {
     /// A new version of the MPD.
     Refresh(&'a Mpd),
-    /// A version of the MPD behind some that were missed, so that a new section begins in all tracks.
+    /// A version of the MPD after some that were missed, so that a new section begins in all tracks.
     Reset(&'a Mpd),
-    /// An instant alone.
+    /// Only the time.
     Tick,
 }
 
@@ -43,22 +43,22 @@ impl<'a> Coming<'a> {
     }
 }
 
-/// An update whose presentation is judged, beside what it comes to.
+/// An update with its presentation, and the state that it is checked against.
 #[derive(Clone, Copy)]
 pub struct Next<'a> {
-    /// What stands beside the tracks.
+    /// The state without the tracks.
     pub standing: &'a Standing,
     /// The tracks.
     pub tracks: &'a [LiveTrack],
-    /// What comes.
+    /// The update.
     pub coming: Coming<'a>,
-    /// The presentation that would be in force, at any instant.
+    /// The presentation that would be in force, at any time.
     pub force: &'a Presentation,
-    /// When it comes.
+    /// The time of the update.
     pub now: Instant,
-    /// The place of the first Period of the presentation. The others have the next ones.
+    /// The index of the first Period of the presentation. The others have the next ones.
     pub place: usize,
-    /// Whether it is known that nothing is new of any track. Where it isn't, something may be.
+    /// Whether it is known that no track has new segments. Where it is false, there may be some.
     pub is_quiet: bool,
 }
 
@@ -70,11 +70,11 @@ impl<'a> Next<'a> {
     ghost use Rattle.live_judge.specs.Shown.{in_force, state_shown};
     ghost use Rattle.live_judge.specs.Sound.{IsLive};
 
-    /// Judges an update by all rules but those on when it comes, which [`Standing::check_now`] tries, and on the addresses
-    /// of new segments. The first refusal is told. It takes no memory.
+    /// Checks an update by all rules except those on its time, which [`Standing::check_now`] checks, and those on the URLs
+    /// of new segments. The first error is returned. It allocates nothing.
     ///
-    /// Requires that `check_now` answered Ok, and that the presentation is that of the MPD at the instant, or the one in
-    /// force.
+    /// Requires that `check_now` returned `Ok`, and that the presentation is that of the MPD at the time of the update, or
+    /// the one in force.
     pub fn judge(
         standing: &'a Standing,
         tracks: &'a [LiveTrack],
@@ -113,7 +113,7 @@ impl<'a> Next<'a> {
         Ok(next)
     }
 
-    /// Whether nothing is new of any track. It divides.
+    /// Whether no track has new segments. It divides.
     fn has_nothing_new(&self) -> bool
         requires { IsNext self.now }
         ensures { result ≡ true → IsQuiet self.entry.now }
@@ -126,7 +126,7 @@ impl<'a> Next<'a> {
         true
     }
 
-    /// What comes to a track.
+    /// The update of a track.
     ///
     /// Requires that the track is in range.
     pub fn of(&self, track: usize) -> TrackNext<'_>

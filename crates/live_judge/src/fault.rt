@@ -1,4 +1,4 @@
-// Why an update is refused.
+// Why an update is rejected.
 ghost use Rattle.live_judge.specs.declared.fault.RefreshFault.TheVariants.{Memory};
 
 use bridge_io::NoMemory;
@@ -9,16 +9,16 @@ use std::alloc::{AllocError, AllocFailed};
 use thiserror::Error;
 use timeline::Span;
 
-/// Why an update may not follow what was accepted. The first rule that holds is told; values are those of the first
-/// track, then section, then place.
+/// Why an update can't follow what was accepted. The first broken rule is returned; values are those of the first
+/// track, then section, then index.
 #[derive(Clone, Copy, Debug, Error)]
 pub enum RefreshFault {
     /// It is earlier than the last accepted one.
     #[error("the clock goes back")]
     ClockBack {
-        /// When the last accepted one came.
+        /// The time of the last accepted one.
         former: Instant,
-        /// When this one came.
+        /// The time of this one.
         now: Instant,
     },
     /// Its MPD was published before the one in force (ISO/IEC 23009-1, 5.3.1.2).
@@ -29,30 +29,30 @@ pub enum RefreshFault {
         /// When this one was.
         new: Instant,
     },
-    /// It changes what stays in all versions of an MPD: when it begins to be available, its Periods' ids and their order,
-    /// its tracks, or what is known of a Period (ISO/IEC 23009-1, 5.4).
+    /// It changes what is the same in all versions of an MPD: availabilityStartTime, its Periods' ids and their order,
+    /// its tracks, or the attributes of a known Period (ISO/IEC 23009-1, 5.4).
     #[error("the MPD changes what stays")]
     Changed,
     /// A known Period begins at another time (ISO/IEC 23009-1, 5.3.2.1).
     #[error("a Period is moved")]
     Moved {
-        /// The place of the Period's id in the order of first sight.
+        /// The index of the Period's id in the order in which ids were first seen.
         section: u64,
     },
-    /// Segments that are kept have other times (ISO/IEC 23009-1, 5.4).
+    /// Kept segments have different times (ISO/IEC 23009-1, 5.4).
     #[error("kept segments are rewritten")]
     Rewritten {
-        /// The track's place.
+        /// The track's index.
         track: usize,
-        /// The kept segment; none where the new MPD has more of them.
+        /// The kept segment; `None` where the new MPD has more of them.
         kept: Option<Span>,
-        /// What the new MPD has in its place.
+        /// The segment of the new MPD instead of it.
         new: Span,
     },
-    /// The first new segment has a gap or an overlap of more than half its duration behind the last one.
+    /// The gap or overlap between the last segment and the first new one is more than half the latter's duration.
     #[error("a gap or an overlap between segments")]
     Step {
-        /// The track's place.
+        /// The track's index.
         track: usize,
         /// When its last segment ends.
         end: Tick,
@@ -73,7 +73,7 @@ pub enum RefreshFault {
     /// A static MPD was accepted before (ISO/IEC 23009-1, 5.4).
     #[error("the presentation has ended")]
     Ended,
-    /// More segments would be kept than may be.
+    /// Too many segments would be kept.
     #[error("too many segments to keep")]
     Window {
         /// The first track with more than 20,000, or the first at which all tracks so far have more than 500,000.
@@ -81,20 +81,20 @@ pub enum RefreshFault {
         /// How many there would be.
         count: u128,
     },
-    /// The MPD's presentation is refused.
+    /// The MPD's presentation is rejected.
     #[error("the presentation is refused")]
     Presentation(PresentationFault),
-    /// Memory is wanting.
+    /// Out of memory.
     #[error("out of memory")]
     Memory,
-    /// Before a reset the last segments of two tracks stand in different Periods.
+    /// Before a reset the last segments of two tracks are in different Periods.
     #[error("the tracks end in different Periods")]
     Uneven {
-        /// The first track that differs from the first one of all.
+        /// The first track that differs from track 0.
         track: usize,
-        /// The place of the first one's Period.
+        /// The index of track 0's Period.
         first: u64,
-        /// The place of its own.
+        /// The index of its own.
         last: u64,
     },
 }

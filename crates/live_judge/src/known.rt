@@ -17,14 +17,14 @@ use std::collections::BTreeMap;
 use std::marker::Model;
 use url_parts::Part;
 
-/// What stays of a track in a Period (ISO/IEC 23009-1, 5.3.9.2).
+/// What may not change of a track in a Period (ISO/IEC 23009-1, 5.3.9.2).
 #[derive(Drop)]
 pub struct KeptAttributes {
     /// How many ticks make a second.
     pub timescale: u32,
     /// `@presentationTimeOffset`, in these ticks.
     pub time_offset: u64,
-    /// The initialization part.
+    /// The init segment.
     pub initialization: Part,
 }
 
@@ -35,17 +35,17 @@ pub struct KnownPeriod {
     pub id: Text,
     /// When it begins, from the presentation's start.
     pub start: Nanos,
-    /// What stays of each track.
+    /// What may not change of each track.
     pub attributes: Vec<KeptAttributes>,
 }
 
 /// The Periods that were seen, in the order of first sight.
 ///
-/// In a contract it is that list. Their places are found by an ordered search, since ids are strangers'.
+/// In a contract it is that list. Their indices are found by an ordered search, since ids are untrusted input.
 #[derive(Drop)]
 pub struct KnownPeriods {
     periods: Vec<KnownPeriod>,
-    /// The place of each one by its id. Some more may be left here by a change that memory was wanting for.
+    /// The index of each one by its id. A change that ran out of memory may have left further ids here.
     places: BTreeMap<String, usize>,
 }
 
@@ -68,7 +68,7 @@ impl KnownPeriods {
     ghost use Rattle.std.specs.Option.{option_copied};
     ghost use Rattle.std.specs.List.{slice_get};
 
-    /// None.
+    /// No Periods.
     pub fn new(alloc: Global) -> KnownPeriods
         ensures { result ≡ [] }
     {
@@ -85,21 +85,21 @@ impl KnownPeriods {
         self.periods.len()
     }
 
-    /// The one at a place, counted from 0. There is none exactly where the place isn't below their number.
+    /// The one at an index, counted from 0; `None` exactly where the index isn't below their number.
     pub fn get(&self, place: usize) -> Option<&KnownPeriod>
         ensures { option_map (λ k. known_shown k.now) result ≡ slice_get self.now place }
     {
         self.periods.get(place)
     }
 
-    /// The place of an id.
+    /// The index of an id.
     pub fn find(&self, id: &str) -> Option<usize>
         ensures { result ≡ position (bytes_eq id.now) (ids_of self.now) }
     {
         self.if_there(id, self.places.get(id).copied())
     }
 
-    /// A place where an id stands.
+    /// An index, where the id is at it.
     #[tactic(auto, using(crate::proofs::Walks::in_lists))]
     fn if_there(&self, id: &str, place: Option<usize>) -> Option<usize>
         ensures { result ≡ if_there (ids_of self.now) id.now place }
@@ -112,7 +112,7 @@ impl KnownPeriods {
 
     /// Adds Periods that weren't seen. An error leaves them as they were.
     ///
-    /// Requires that no id stands twice among all of them.
+    /// Requires that no id is repeated among all of them.
     pub fn extend(&mut self, alloc: Global, mut new: Vec<KnownPeriod>) -> Result<(), NoMemory>
         requires { are_once (ids_of (self.old ++ map known_shown new.items)) ≡ true }
         ensures ok { OnOk result (self.new ≡ self.old ++ map known_shown new.items) }
@@ -124,7 +124,7 @@ impl KnownPeriods {
     }
 }
 
-/// Finds the ids of new Periods behind those of the known ones.
+/// Indexes the ids of new Periods after those of the known ones.
 fn number(
     alloc: Global,
     places: &mut BTreeMap<String, usize>,
@@ -146,7 +146,7 @@ fn number(
     Ok(())
 }
 
-/// Finds an id at a place. An error leaves the places as they were.
+/// Indexes an id. An error leaves the map as it was.
 fn place_at(
     alloc: Global,
     places: &mut BTreeMap<String, usize>,
@@ -161,7 +161,7 @@ fn place_at(
     Ok(())
 }
 
-/// The Periods of a presentation from a section on, as they are known once they are accepted.
+/// The Periods of a presentation from a section on, as they are stored once they are accepted.
 #[tactic(auto, using(crate::proofs::Walks::in_order))]
 pub fn periods_from(
     alloc: Global,

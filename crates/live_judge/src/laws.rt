@@ -5,7 +5,7 @@ ghost use Rattle.live_judge.specs.SoundGoesOn.{KeptGoOn, NumbersGoOn, PeriodsSta
 use mpd_presentation::presentations_show_their_mpd;
 use mpd_rules::laws::period_ids_differ;
 
-/// The state that a first MPD leaves is sound, and its Periods are all that are known.
+/// The state after a first MPD is sound, and its Periods are all that are known.
 pub fn first_states_are_sound()
     ensures sound { FirstStatesAreSound }
     ensures stands { FirstPeriodsStand }
@@ -14,8 +14,8 @@ pub fn first_states_are_sound()
     presentations_show_their_mpd();
 }
 
-/// An accepted update leaves a sound state sound. Its Periods stand from the place on that is found for them, it brings at
-/// most one reset and 1,000 Periods, and of each track a segment and at most 20,000 stay kept.
+/// An accepted update keeps a sound state sound. Its Periods are at the index that is found for them, it brings at most
+/// one reset and 1,000 Periods, and of each track at least one segment and at most 20,000 are kept.
 pub fn accepted_states_stay_sound()
     ensures sound { SoundStatesGoOn }
     ensures stands { PeriodsStandOn }

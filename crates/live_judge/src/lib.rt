@@ -1,5 +1,5 @@
-//! The rules by which an update of a followed presentation is judged on what a session keeps: in their order, with the
-//! values that they tell, and without memory.
+//! The rules by which an update of a followed presentation is checked against the state of a session: in order, with
+//! the values that they report, and without allocating.
 #![tactic(auto)]
 
 mod block;

@@ -11,7 +11,7 @@ use crate::times::NewRun;
 use crate::{RefreshFault, TrackNext};
 
 impl TrackNext<'_> {
-    /// A new segment that is longer than the target duration.
+    /// Rejects a new segment that is longer than the target duration.
     #[tactic(auto, using(crate::proofs::Walks::in_order))]
     pub(crate) fn check_long(&self) -> Result<(), RefreshFault>
         requires next { IsTrackNext self.now }
@@ -49,8 +49,8 @@ impl TrackNext<'_> {
 impl NewRun {
     ghost use Rattle.live_judge.specs.Times.{IsRun};
 
-    /// The first duration of all that is longer than the target duration. Of equally long segments each is printed as long
-    /// as the longest one, or one unit less.
+    /// The first of all durations that is longer than the target duration. Each of equally long segments is printed as
+    /// long as the longest one, or one unit less.
     fn first_long(&self, unit: u32, target: u64) -> Option<u64>
         requires { 1 ≤ unit }
         ensures { (ds : List ℕ) → IsRun ds self.now → slice_get (filter (is_long unit target) ds) 0 ≡ result }
@@ -68,7 +68,7 @@ impl NewRun {
     }
 }
 
-/// Whether a duration is longer than the target duration, to the nearest second with halves up.
+/// Whether a duration, rounded to the nearest second with halves up, is longer than the target duration.
 #[tactic(auto, using(crate::proofs::Longs::long_is))]
 fn is_long(printed: u64, unit: u32, target: u64) -> bool
     requires { 1 ≤ unit }

@@ -21,10 +21,10 @@ use hls_writer::MediaItem;
 use iso_time::Instant;
 use presentation::Presentation;
 
-/// How many kept segments are removed from the front, so that those behind them last at least so many units: those that are
-/// no longer available at an instant, as far as that goes. It takes no memory.
+/// How many kept segments are removed from the start, so that those after them last at least `least` units: those that are
+/// no longer available at a time, as far as that allows. It allocates nothing.
 ///
-/// Requires that the two buffers stand side by side.
+/// Requires that the two buffers are parallel.
 pub fn removed_of(track: &LiveTrack, force: &Presentation, now: Instant, least: u128) -> usize
     requires { length track.now.items.items ≡ length track.now.facts.items }
     ensures { result ≡ removed_of (looked_at now force.now).following least (kept_in track.now) }
@@ -35,7 +35,7 @@ pub fn removed_of(track: &LiveTrack, force: &Presentation, now: Instant, least: 
     unavailable(track, force, now).min(last_place(track, least))
 }
 
-/// The place of the first segment that is still available, or behind all of them.
+/// The index of the first segment that is still available, or after all of them.
 #[tactic(auto, using(crate::proofs::Walks::in_lists))]
 fn unavailable(track: &LiveTrack, force: &Presentation, now: Instant) -> usize
     ensures { result ≡ position_or_len (is_still_available (looked_at now force.now)) track.now.facts.items }
@@ -69,7 +69,7 @@ fn is_after(after: Option<i128>, end: Tick) -> bool
 /// Farther from 0 than any tick, in nanoseconds.
 const FAR: i128 = 1 << 94;
 
-/// Whether so many nanoseconds are before a time.
+/// Whether a number of nanoseconds is before a time.
 fn is_before(nanos: i128, end: Tick) -> bool
     ensures { result ≡ before (nanoseconds nanos) (time_of end) }
 {
@@ -82,7 +82,7 @@ fn is_before(nanos: i128, end: Tick) -> bool
     nanos * i128::from(end.scale) < end.n * 1_000_000_000
 }
 
-/// The last place from which the printed durations sum to at least so many units, or 0 where there is none.
+/// The last index from which the printed durations sum to at least `least` units, or 0 where there is none.
 fn last_place(track: &LiveTrack, least: u128) -> usize
     requires { length track.now.items.items ≡ length track.now.facts.items }
     ensures { result ≡ last_place least (durations (kept_in track.now)) }
@@ -103,7 +103,7 @@ fn duration_of(item: &MediaItem) -> u64
 }
 
 impl Next<'_> {
-    /// Three target durations in units: what is left of a track at least where segments are removed.
+    /// Three target durations in units: the least that is left of a track where segments are removed.
     pub fn least_length(&self) -> u128
         requires { IsNext self.now }
         ensures { result ≡ least_length (coming_of self.entry.now) }
@@ -113,9 +113,9 @@ impl Next<'_> {
 }
 
 impl TrackNext<'_> {
-    /// How many kept segments the update removes from the front. It takes no memory.
+    /// How many kept segments the update removes from the start. It allocates nothing.
     ///
-    /// Requires that no gap or overlap behind a last segment is told, as `Next::judge` sees to.
+    /// Requires that there is no gap or overlap after a last segment, which `Next::judge` checks.
     pub fn removed(&self) -> usize
         requires next { IsTrackNext self.now }
         requires joined { IsJoined self.now.next.now }

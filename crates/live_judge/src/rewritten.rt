@@ -1,4 +1,4 @@
-// Kept segments that a new MPD has with other times.
+// Kept segments that a new MPD has with different times.
 ghost use Rattle.std.specs.Prelude.{◌≡◌, ◌+◌, ◌<◌, ◌≤◌, None, flat_map, is_some, length, map, option_map, take, true};
 ghost use Rattle.exact_time.specs.Tick.{time_of};
 ghost use Rattle.presentation.specs.Counting.{sections_of};
@@ -19,24 +19,24 @@ use crate::{LiveTrack, Next, RefreshFault, TrackNext};
 use exact_time::Tick;
 use timeline::{Cursor, Runs, Span, TimeWalk, Window, closed_ends};
 
-/// A kept segment and the new one in its place. There is no kept one where there are more new ones.
+/// A kept segment and the new one instead of it. There is no kept one where there are more new ones.
 #[derive(Clone, Copy)]
 pub(crate) struct Pair {
     pub(crate) kept: Option<Span>,
     pub(crate) new: Span,
 }
 
-/// Segments in order of which some are the last ones that end by a time.
+/// Segments in order, some of which are the last ones that end by a time.
 #[derive(Drop)]
 pub(crate) struct Ended<'a> {
     pub(crate) walk: TimeWalk<'a>,
-    /// How many they are.
+    /// How many of them.
     pub(crate) count: u64,
 }
 
 impl Next<'_> {
-    /// Kept segments that the update's MPD has with other times. It takes no memory, and goes over no more new segments than
-    /// are kept of a Period's last section, and one.
+    /// Rejects kept segments that the update's MPD has with different times. It allocates nothing, and visits at most one
+    /// more new segment than are kept of a Period's last section.
     pub(crate) fn check_kept(&self) -> Result<(), RefreshFault>
         requires next { IsNext self.now }
         requires comes { Comes self.now.standing.now self.now.coming self.now.force.now self.now.now }
@@ -90,7 +90,7 @@ impl TrackNext<'_> {
         }
     }
 
-    /// The first segment of a block, seen from the back, that the presentation has otherwise.
+    /// The first segment of a block, from the end, that the presentation has with different times.
     fn rewritten(&self, section: usize, block: Block) -> Option<Pair>
         requires next { IsTrackNext self.now }
         requires timed { EndAtTimes (p_of self.now.next.now) }
@@ -115,7 +115,7 @@ impl TrackNext<'_> {
     }
 }
 
-/// The last listed segments that end by a time, at most so many.
+/// The last listed segments that end by a time, at most `most`.
 fn last_ended<'a>(runs: &'a Runs, window: &Window, last: Tick, most: u64) -> Ended<'a>
     requires window { IsWindowOf runs.now window.now }
     requires reached { IsReached runs.now window.now }
@@ -134,7 +134,7 @@ fn last_ended<'a>(runs: &'a Runs, window: &Window, last: Tick, most: u64) -> End
     }
 }
 
-/// The place from which so many segments are listed, at or before another one.
+/// The index from which `wanted` segments are listed, at or before another one.
 #[tactic(auto, using(crate::proofs::Holding::back_adds))]
 fn place_before(runs: &Runs, window: &Window, behind: Cursor, wanted: u64) -> Cursor
     requires window { IsWindowOf runs.now window.now }
@@ -152,7 +152,7 @@ fn place_before(runs: &Runs, window: &Window, behind: Cursor, wanted: u64) -> Cu
     cursor
 }
 
-/// The first pair of kept and new segments that differs, both seen from the back, of those that end from a time on.
+/// The first pair of kept and new segments that differs, both from the end, among those that end at or after a time.
 #[tactic(auto, using(crate::proofs::Holding::held_steps), unfolding(crate::specs::Rewriting::held))]
 fn last_other(ended: Ended<'_>, first: Tick, track: &LiveTrack, block: Block) -> Option<Pair>
     requires block { IsWithin block track.now }
@@ -173,7 +173,8 @@ fn last_other(ended: Ended<'_>, first: Tick, track: &LiveTrack, block: Block) ->
     found
 }
 
-/// The pair of a new segment behind which some are left, where it ends from a time on and differs; otherwise another one.
+/// The pair of a new segment, by the number of segments after it, where it ends at or after a time and differs; otherwise
+/// another pair.
 fn or_pair(
     track: &LiveTrack,
     block: Block,

@@ -9,14 +9,14 @@ ghost use Rattle.live_judge.specs.Shown.{track_shown};
 use crate::walk::Rule;
 use crate::{Next, RefreshFault, TrackNext};
 
-/// How many segments of a track are kept at most.
+/// The most segments of a track that are kept.
 const TRACK_LIMIT: u128 = 20_000;
 
-/// How many segments of all tracks are kept at most.
+/// The most segments of all tracks that are kept.
 const LIMIT: u128 = 500_000;
 
 impl Next<'_> {
-    /// More segments than may be kept of a track, or of all tracks.
+    /// Rejects too many kept segments of a track, or of all tracks.
     pub(crate) fn check_room(&self) -> Result<(), RefreshFault>
         requires next { IsNext self.now }
         requires joined { IsJoined self.now }

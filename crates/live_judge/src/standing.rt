@@ -1,4 +1,4 @@
-// What a session keeps beside its tracks.
+// The state of a session without its tracks.
 ghost use Rattle.std.specs.Prelude.{◌≡◌, ◌++◌};
 ghost use Rattle.presentation.specs.Presented.{is_finished, looked_at};
 ghost use Rattle.live_meaning.specs.Refusals.{clock_told, ended_told};
@@ -11,24 +11,24 @@ use iso_time::Instant;
 use presentation::Presentation;
 use url_parts::Base;
 
-/// What a session keeps beside its tracks. In a contract it is `common_shown`.
+/// The state of a session without its tracks. In a contract it is `common_shown`.
 #[derive(Drop)]
 pub struct Standing {
     /// The MPD's own URL.
     pub base: Base,
     /// How many decimals of a second are printed.
     pub digits: Digits,
-    /// The presentation of the first MPD at its instant.
+    /// The presentation of the first MPD at its time.
     pub opened: Presentation,
-    /// That of the MPD in force, at the instant at which it came; none while the first one is in force.
+    /// That of the MPD in force, at its time; `None` while the first one is in force.
     pub newest: Option<Presentation>,
-    /// The place of the first Period of the MPD in force. The others have the next ones.
+    /// The index of the first Period of the MPD in force. The others have the next ones.
     pub place: usize,
     /// When the presentation begins to be available (ISO/IEC 23009-1, 5.3.1.2).
     pub availability_start: Instant,
     /// When the MPD in force was published (ISO/IEC 23009-1, 5.3.1.2).
     pub published: Option<Instant>,
-    /// When the last update came.
+    /// The time of the last update.
     pub instant: Instant,
     /// The Periods that were seen.
     pub known: KnownPeriods,
@@ -43,7 +43,7 @@ pub struct Standing {
 impl Standing {
     ghost use Rattle.std.specs.Prelude.{unwrap_or};
 
-    /// The presentation in force, at the instant at which its MPD came.
+    /// The presentation in force, at the time of its MPD.
     pub fn force(&self) -> &Presentation
         ensures { result.now ≡ unwrap_or self.now.newest self.now.opened }
     {
@@ -53,7 +53,7 @@ impl Standing {
         }
     }
 
-    /// Whether an update may come at an instant: none may after a static MPD, nor at an earlier instant than the last one.
+    /// Checks the time of an update: none may follow a static MPD, nor have an earlier time than the last one.
     pub fn check_now(&self, now: Instant) -> Result<(), RefreshFault>
         ensures { Judges result (ended_told (common_shown self.now) ++ clock_told (common_shown self.now) now) }
     {
@@ -70,7 +70,7 @@ impl Standing {
     }
 }
 
-/// Whether a presentation lists all of its segments at every instant.
+/// Whether a presentation lists all of its segments at every time.
 pub(crate) fn is_finished(force: &Presentation, now: Instant) -> bool
     ensures { result ≡ is_finished (looked_at now force.now) }
 {

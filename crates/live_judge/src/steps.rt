@@ -1,4 +1,4 @@
-// How new segments go on behind the last ones.
+// How new segments continue after the last ones.
 ghost use Rattle.std.specs.Prelude.{◌==◌, map, not};
 ghost use Rattle.live_meaning.specs.Updates.{is_reset};
 ghost use Rattle.live_meaning.specs.Refusals as rules;
@@ -11,7 +11,7 @@ use crate::walk::Rule;
 use crate::{Next, RefreshFault, TrackNext};
 
 impl<'a> Next<'a> {
-    /// Judges the times of the new segments, and how many are kept with them.
+    /// Checks the times of the new segments, and how many are kept with them.
     pub(crate) fn check_times(&self) -> Result<(), RefreshFault>
         requires { IsNext self.now }
         ensures { Judges result (timed_told (is_reset (update_of self.entry.now.coming self.entry.now.now)) (coming_of self.entry.now)
@@ -22,7 +22,7 @@ impl<'a> Next<'a> {
         self.check_room()
     }
 
-    /// A gap or an overlap behind a last segment; before a reset, tracks that end in different Periods.
+    /// Rejects a gap or an overlap after a last segment; before a reset, tracks that end in different Periods.
     #[tactic(auto, using(crate::proofs::Firsts::uneven_is))]
     fn check_joints(&self) -> Result<(), RefreshFault>
         requires { IsNext self.now }

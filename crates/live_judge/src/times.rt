@@ -14,7 +14,7 @@ use crate::TrackNext;
 use exact_time::{Equal, Rounder, Tick};
 use timeline::{SpanRun, TimeWalk};
 
-/// The times of segments that go on behind others, with what their durations are printed by.
+/// The times of segments that continue after others, with the values for printing their durations.
 #[derive(Drop)]
 pub(crate) struct NewTimes<'a> {
     pub(crate) walk: TimeWalk<'a>,
@@ -29,9 +29,9 @@ pub(crate) struct NewTimes<'a> {
 /// The printed durations of equally long segments.
 #[derive(Clone, Copy)]
 pub(crate) struct NewRun {
-    /// That of the first one, which may follow on a gap.
+    /// That of the first one, which may follow a gap.
     pub(crate) first: u64,
-    /// That of the second one. It tells nothing where there is one alone.
+    /// That of the second one. It has no meaning where there is only one.
     pub(crate) second: u64,
     /// Those of all but the first one.
     pub(crate) others: Equal,
@@ -56,7 +56,7 @@ impl<'a> NewTimes<'a> {
         }
     }
 
-    /// Goes behind the next segments that are equally long. There are none exactly at the end.
+    /// Moves past the next segments of equal length; `None` exactly at the end.
     pub(crate) fn next_run(&mut self) -> Option<NewRun>
         requires { IsPaced self.old }
         ensures { MatchOption result (left_of self.old ≡ []) (λ run. IsNextRun self.old run self.new) }
@@ -73,7 +73,7 @@ impl<'a> NewTimes<'a> {
     }
 }
 
-/// The printed duration of the second of equally long segments, and 0 where there is one alone.
+/// The printed duration of the second of equally long segments, and 0 where there is only one.
 fn second_of(spans: &SpanRun, first: Tick, unit: u32) -> u64
     requires low { 1 ≤ unit }
     requires high { unit ≤ 10 ^ 9 }
@@ -88,7 +88,7 @@ fn second_of(spans: &SpanRun, first: Tick, unit: u32) -> u64
     Rounder::resume(first, former, unit).next(later(former, spans.step))
 }
 
-/// So many ticks after a time.
+/// The time `ticks` ticks later.
 fn later(time: Tick, ticks: u64) -> Tick
     requires { (time.n +ℤ pos ticks) <ℤ pos (2 ^ 64) }
     ensures { time_of result ≡ ticks_after (time_of time) ticks }
@@ -102,7 +102,7 @@ fn later(time: Tick, ticks: u64) -> Tick
 impl<'a> TrackNext<'a> {
     ghost use Rattle.live_judge.specs.Times.{IsPaced, left_of};
 
-    /// The printed durations of a section's new segments; none where nothing is new there.
+    /// The printed durations of a section's new segments; `None` where there are none.
     pub(crate) fn times(&self, section: usize) -> Option<NewTimes<'a>>
         requires next { IsTrackNext self.now }
         requires section { section < length (p_of self.now.next.now).sections }
@@ -123,7 +123,7 @@ impl<'a> TrackNext<'a> {
         }
     }
 
-    /// How many units the new segments of a section last, by their printed durations.
+    /// The total printed duration of a section's new segments, in units.
     fn total_in(&self, section: usize) -> u128
         requires next { IsTrackNext self.now }
         requires section { section < length (p_of self.now.next.now).sections }
@@ -141,7 +141,7 @@ impl<'a> TrackNext<'a> {
         total
     }
 
-    /// How many units the new segments last, by their printed durations. It stops at the last value of a counter.
+    /// The total printed duration of the new segments, in units. It stops at the last value of a counter.
     #[tactic(auto, using(crate::proofs::Walks::in_order))]
     pub(crate) fn total(&self) -> u128
         requires next { IsTrackNext self.now }
@@ -160,7 +160,7 @@ impl NewRun {
     ghost use Rattle.std.specs.Prelude.{List, ℕ};
     ghost use Rattle.live_judge.specs.Times.{IsRun};
 
-    /// How many units they last.
+    /// Their total printed duration, in units.
     fn total(&self) -> u128
         ensures { (ds : List ℕ) → IsRun ds self.now → result ≡ capped (sum ds) }
     {

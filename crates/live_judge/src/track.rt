@@ -1,4 +1,4 @@
-// What is kept of a track.
+// The state of a track.
 ghost use Rattle.std.specs.Prelude.{◌≡◌, ◌<◌, ◌∷◌, Some, length, slice_get};
 ghost use Rattle.live_judge.specs.Shown.{kept_of, kepts_of, last_of, track_shown};
 
@@ -7,38 +7,38 @@ use exact_time::{Nanos, Tick};
 use hls_writer::MediaItem;
 use timeline::Span;
 
-/// What is kept of a segment beside what is written of it.
+/// What is stored of a segment besides its playlist item.
 #[derive(Clone, Copy)]
 pub struct Fact {
-    /// Its times from the Period's start, and its number.
+    /// Its times relative to the Period's start, and its number.
     pub span: Span,
-    /// The place of its Period's id in the order of first sight.
+    /// The index of its Period's id in the order in which ids were first seen.
     pub place: usize,
     /// When its Period begins, from the presentation's start.
     pub period_start: Nanos,
 }
 
-/// A track as it is kept: the segments of the playlist in order. In a contract it is `track_shown`.
+/// The state of a track: the segments of its playlist in order. In a contract it is `track_shown`.
 #[derive(Drop)]
 pub struct LiveTrack {
-    /// What is written of them.
+    /// Their playlist items.
     pub items: HeapCircularBuffer<MediaItem>,
-    /// What isn't, side by side with it.
+    /// What else is stored of them, parallel to the items.
     pub facts: HeapCircularBuffer<Fact>,
     /// How many segments were removed before them.
     pub first: u64,
-    /// When the first segment ever listed of the last one's section begins, counted from the Period's start.
+    /// When the first segment ever listed of the last one's section begins, relative to the Period's start.
     pub begin: Tick,
 }
 
 /// The last segment of a track.
 #[derive(Clone, Copy)]
 pub struct LastKept {
-    /// The place of its Period's id in the order of first sight.
+    /// The index of its Period's id in the order in which ids were first seen.
     pub place: usize,
     /// Its section's number.
     pub section: u64,
-    /// When that section's first segment begins, counted from the Period's start.
+    /// When that section's first segment begins, relative to the Period's start.
     pub begin: Tick,
     /// When it ends.
     pub end: Tick,
@@ -47,7 +47,7 @@ pub struct LastKept {
 impl LiveTrack {
     /// The last segment.
     ///
-    /// Requires that one is kept, and that the two buffers stand side by side.
+    /// Requires that one is kept, and that the two buffers are parallel.
     #[tactic(auto, using(crate::proofs::Keeping::side_by_side))]
     pub fn last(&self) -> LastKept
         requires paired { length self.now.items.items ≡ length self.now.facts.items }
@@ -64,9 +64,9 @@ impl LiveTrack {
         }
     }
 
-    /// The segment at a place: what is written of it, and what isn't.
+    /// The segment at an index: its playlist item, and what else is stored of it.
     ///
-    /// Requires that the place is in range.
+    /// Requires that the index is in range.
     #[tactic(auto, using(crate::proofs::Keeping::side_by_side))]
     pub(crate) fn get(&self, place: usize) -> (&MediaItem, &Fact)
         requires paired { length self.now.items.items ≡ length self.now.facts.items }

@@ -1,4 +1,4 @@
-// What an update brings to a track.
+// The update of a track.
 ghost use Rattle.std.specs.Prelude.{◌≡◌, ◌+◌, ◌<◌, ◌≤◌, ◌^◌, [], All, MatchOption, Some, length, option_map, slice_get};
 ghost use Rattle.presentation.specs.Presented.{content_at, start_of, window_of};
 ghost use Rattle.timeline.specs.Listed.{IsReached, IsWindowOf, timing_of};
@@ -11,18 +11,18 @@ use crate::{LiveTrack, Next};
 use exact_time::Nanos;
 use timeline::{Cursor, Runs, Span, TimeWalk, Window};
 
-/// What an update brings to a track. [`Next::of`] makes it.
+/// The update of a track. [`Next::of`] makes it.
 #[derive(Clone, Copy)]
 pub struct TrackNext<'a> {
     /// The update.
     pub next: &'a Next<'a>,
     /// The track.
     pub track: &'a LiveTrack,
-    /// Its place among the tracks.
+    /// Its index among the tracks.
     pub index: usize,
 }
 
-/// A segment that begins what is new of a track.
+/// The first new segment of a track.
 #[derive(Clone, Copy)]
 pub(crate) struct FirstNew {
     /// Its section's number.
@@ -39,7 +39,7 @@ impl<'a> Next<'a> {
         self.force.sections().as_slice()[section].start
     }
 
-    /// The segments that are listed of a section's Period.
+    /// The window of the listed segments in a section.
     pub(crate) fn window(&self, section: usize) -> Window
         requires { section < length (p_of self.now).sections }
         ensures { result ≡ window_of (p_of self.entry.now) section }
@@ -47,7 +47,7 @@ impl<'a> Next<'a> {
         self.force.window_from(self.start(section), self.now)
     }
 
-    /// The number of the section of a Period's new segments: its place, and one more for each reset.
+    /// The number of the section of a Period's new segments: its index, plus one for each reset.
     ///
     /// Requires that the section is in range.
     pub fn number(&self, section: usize) -> u64
@@ -58,7 +58,7 @@ impl<'a> Next<'a> {
         (self.place + section) as u64 + self.resets()
     }
 
-    /// How many resets there are with this one.
+    /// How many resets there are, including this one.
     #[tactic(auto, using(crate::proofs::Listing::reset_at))]
     fn resets(&self) -> u64
         requires { IsNext self.now }
@@ -73,7 +73,7 @@ impl<'a> Next<'a> {
 }
 
 impl<'a> TrackNext<'a> {
-    /// What the track has in a section.
+    /// The segments of the track in a section.
     pub(crate) fn runs(&self, section: usize) -> &'a Runs
         requires next { IsTrackNext self.now }
         requires section { section < length (p_of self.now.next.now).sections }
@@ -85,7 +85,7 @@ impl<'a> TrackNext<'a> {
         self.next.force.runs(section, self.index)
     }
 
-    /// The place of a section's first new segment; none where there is nothing new in the section. It divides.
+    /// The index of a section's first new segment; `None` where nothing in the section is new. It divides.
     ///
     /// Requires that the section is in range.
     pub fn cursor(&self, section: usize) -> Option<Cursor>

@@ -1,4 +1,4 @@
-// Rules that are tried of each track in turn.
+// Rules that are checked for each track in turn.
 ghost use Rattle.std.specs.Prelude.{map};
 ghost use Rattle.live_judge.specs.Coming.{IsNext, IsTrackNext};
 ghost use Rattle.live_judge.specs.Faults.{Judges};
@@ -7,23 +7,23 @@ ghost use Rattle.live_judge.specs.Walk.{IsReady, told_at, told_by};
 
 use crate::{Next, RefreshFault, TrackNext};
 
-/// What is tried of a track.
+/// A rule for a track.
 #[derive(Clone, Copy)]
 pub(crate) enum Rule {
     /// The update's MPD has its kept segments with the same times.
     Rewritten,
-    /// There is no gap or overlap behind its last segment.
+    /// There is no gap or overlap after its last segment.
     Step,
-    /// It ends in the Period at this place.
+    /// It ends in the Period with this index.
     Even(usize),
     /// None of its new segments is longer than the target duration.
     Long,
-    /// No more segments of it are kept than may be.
+    /// Not too many of its segments are kept.
     Room,
 }
 
 impl Next<'_> {
-    /// Tries a rule of each track in turn.
+    /// Checks a rule for each track in turn.
     #[tactic(auto, using(crate::proofs::Firsts::track_by_track), unfolding(crate::specs::Walk::each))]
     pub(crate) fn check_each(&self, rule: Rule) -> Result<(), RefreshFault>
         requires next { IsNext self.now }

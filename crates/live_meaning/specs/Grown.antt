@@ -1,13 +1,13 @@
--- Lists of segments that grow at their end, and lose some at their front.
+-- Lists of segments that grow at the end, and lose some at the start (sliding windows).
 use Rattle.std.specs.Prelude.{◌≡◌, ℕ, ◌*◌, ◌^◌, ◌<◌, ◌≤◌, Bool, false, List, ◌++◌, length, drop, sum_by, Ok}
 use Rattle.hls_media.specs.{declared.media.Media.Media, declared.media.MediaSegment.MediaSegment}
 use Rattle.reload_law.specs.Rules.{lawful}
 
--- the end of a list of segments, from a place on
+-- a list of segments from an index on
 abbrev pub media_from : (target first : ℕ) (ended : Bool) → List MediaSegment → Media
 media_from target first ended all = record { target = target; sequence = first; ended = ended; segments = drop first all }
 
--- a place that doesn't fall, and behind which three target durations are left where it rises
+-- an index that doesn't fall, and from which three target durations are left where it rises
 pub record IsLater (target first next : ℕ) (all : List MediaSegment) : Type 0 where
   pub rises : first ≤ next
   pub within : next ≤ length all

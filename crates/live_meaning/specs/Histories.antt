@@ -1,4 +1,4 @@
--- What a history of accepted updates leaves, with all segments that it ever listed.
+-- The result of a history of accepted updates, with all segments that it ever listed.
 use Rattle.std.specs.Prelude.{ℕ, ◌+◌, ℤ, pos, List, [], ◌∷◌, ◌++◌, map, slice_get, Option, Some, None, option_map, unwrap_or}
 use Rattle.std.specs.{Prelude.{if◌then◌else◌, Result, Ok}, List.fold, Option.option_map_or, Result.result_ok}
 use Rattle.presentation.specs.{declared.fault.PresentationFault.PresentationFault, Counting.tracks_of, Presented.{Presented, looked_at}}
@@ -9,12 +9,12 @@ use Rattle.live_meaning.specs.{Segments.{Numbering, Segment, behind, listed_of, 
 use Rattle.live_meaning.specs.Removal.{first_kept, target_of, three_targets}
 use Rattle.followed.specs.Durations.{last_behind, told}
 
--- what a history leaves beside its segments
+-- the result of a history without its segments
 pub record Common : Type 0 where
   pub terms : Terms
-  -- the presentation of the first MPD at its instant
+  -- the presentation of the first MPD at its time
   pub opened : Presented
-  -- the presentation in force at the last instant
+  -- the presentation in force at the time of the last update
   pub force : Presented
   -- when the MPD in force was published
   pub published : Option ℤ
@@ -26,7 +26,7 @@ pub record Common : Type 0 where
   -- how many updates were accepted
   pub accepted : ℕ
 
--- all segments that a track ever listed, and the place of the first one that is kept
+-- all segments that a track ever listed, and the index of the first one that is kept
 pub record Past : Type 0 where
   pub all : List Segment
   pub first : ℕ
@@ -95,7 +95,7 @@ common_with c u p = record {
   accepted = c.accepted + 1;
 }
 
--- what an update lists behind the last segment comes to all segments
+-- what an update lists after the last segment is added to all segments
 abbrev pub past_with : Common → Past → List Segment → Past
 past_with c past all = record { all = all; first = first_kept c.force.following (least_length c) past.first (told (unit_of c.terms) all) }
 
@@ -105,7 +105,7 @@ new_listed c t all = behind (last_behind None all) (place_behind 0 all) (listed_
 abbrev pub past_after : Common → (track : ℕ) → Past → Past
 past_after c t past = past_with c past (past.all ++ new_listed c t past.all)
 
--- the same of tracks of which the first one has a place
+-- the same for tracks, given the index of the first one
 abbrev pub pasts_after : Common → (track : ℕ) → List Past → List Past
 pasts_after c t [] = []
 pasts_after c t (past ∷ pasts) = past_after c t past ∷ pasts_after c (t + 1) pasts
@@ -125,7 +125,7 @@ abbrev pub after : Terms → Option Whole → Update → Option Whole
 after terms None u = begun terms u
 after terms (Some w) u = option_map (gone_on w u) (result_ok (force_by terms w.common.force u))
 
--- what updates leave that are accepted one after another, the first one first
+-- the result of updates that are accepted one after another, the first one first
 abbrev pub whole_of : Terms → List Update → Option Whole
 whole_of terms history = fold (after terms) None history
 
@@ -139,6 +139,6 @@ past_of terms history t = option_map_or (λ w. unwrap_or (slice_get w.pasts t) n
 abbrev pub all_of : Terms → List Update → (track : ℕ) → List Segment
 all_of terms history t = (past_of terms history t).all
 
--- the place of the first one of them that is kept
+-- the index of the first one of them that is kept
 abbrev pub first_kept_of : Terms → List Update → (track : ℕ) → ℕ
 first_kept_of terms history t = (past_of terms history t).first

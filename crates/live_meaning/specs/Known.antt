@@ -7,7 +7,7 @@ use Rattle.presentation.specs.{declared.parts.Content.Content, Presented.{Presen
 use Rattle.presentation.specs.Counting.{tracks_of}
 use Rattle.live_meaning.specs.Segments.{id_at}
 
--- what stays of a track in a Period
+-- what may not change of a track in a Period
 pub record Attributes : Type 0 where
   pub timescale : ℕ
   pub time_offset : ℕ
@@ -57,7 +57,7 @@ all_same [] (b ∷ bs) = false
 all_same (a ∷ later) [] = false
 all_same (a ∷ later) (b ∷ bs) = same_attributes a b && all_same later bs
 
--- some ids begin with the known ones from a place on, and those behind them were never seen
+-- some ids begin with the known ones from an index on, and those after them were never seen
 abbrev pub goes_on_from : (known ids : List (List ℕ)) → (place : ℕ) → Bool
 goes_on_from known ids place = let rest = drop place known in
     starts_with bytes_eq ids rest && list_all (λ id. not (list_any (bytes_eq id) known)) (drop (length rest) ids)

@@ -1,4 +1,4 @@
--- What holds of histories.
+-- Laws of histories.
 use Rattle.std.specs.Prelude.{◌≡◌, ℕ, ℤ, ◌+◌, ◌-◌, ◌*◌, ◌^◌, ◌<◌, ◌≤◌, All, List, [], ◌∷◌, ◌++◌, filter, length, map, sum, take}
 use Rattle.std.specs.{Prelude.{slice_get, Option, Some, None, Ok}, List.fold}
 use Rattle.exact_time.specs.{Time.{AreRising, IsAtMost, IsTime, Time, difference}, Floor.floor_in}
@@ -33,20 +33,20 @@ accepted_of terms updates = fold (λ history u. with_accepted terms history u (u
 abbrev pub AcceptedAreAccepted : Type 0
 AcceptedAreAccepted = (terms : Terms) (updates : List Update) → IsAccepted terms (accepted_of terms updates)
 
--- ---- what an update makes of a state is what the history with it leaves
+-- ---- applying an update to a state gives the state of the longer history
 
--- a session that shows a state shows what some accepted history leaves
+-- a state is the result of an accepted history
 pub record Shows (terms : Terms) (history : List Update) (s : State) : Type 0 where
   pub accepted : IsAccepted terms history
   pub leaves : state_of terms history ≡ Some s
 
--- it shows the whole history with an update more, where the update is accepted
+-- where an update is accepted, the new state is the result of the history with it
 abbrev pub HistoriesGoOn : Type 0
 HistoriesGoOn =
     (terms : Terms) (history : List Update) (u : Update) (before after : State) → Shows terms history before → next_of before u ≡ Ok after
     → Shows terms (history ++ u ∷ []) after
 
--- and is refused what the whole history refuses
+-- and a state rejects what the history rejects
 abbrev pub HistoriesRefuse : Type 0
 HistoriesRefuse =
     (terms : Terms) (history : List Update) (u : Update) (before : State) → Shows terms history before
@@ -55,9 +55,9 @@ HistoriesRefuse =
 abbrev pub HistoriesBegin : Type 0
 HistoriesBegin = (terms : Terms) (mpd : Values) (now : ℤ) (s : State) → begun_of terms mpd now ≡ Ok s → Shows terms (Refresh mpd now ∷ []) s
 
--- ---- durations never drift, although the front was removed long ago
+-- ---- durations never drift, although the first segments were removed long ago
 
--- behind each update of a history what it lists stands in order, each segment behind the one before it
+-- each update of a history lists its segments in order, each after the one before it
 abbrev pub IsListedInOrder : Terms → (history : List Update) → Type 0
 IsListedInOrder terms history =
     (earlier later : List Update) (w : Whole) (t : ℕ) → history ≡ earlier ++ later → whole_of terms earlier ≡ Some w
@@ -69,7 +69,7 @@ pub record DoesLast (x : Timing) : Type 0 where
   pub end : IsTime x.end
   pub lasts : IsAtMost x.start x.end
 
--- the Periods of a presentation have rising places, and in each of them the ends rise
+-- the Periods of a presentation have rising indices, and in each of them the ends rise
 pub record HasRisingPeriods (n : Numbering) (p : Presented) (t : ℕ) : Type 0 where
   pub places : (s r : ℕ) → s < r → r < length p.sections → place_of n.ids (id_at p s) < place_of n.ids (id_at p r)
   pub last : (s : ℕ) → All DoesLast (listed_at p s t)
@@ -95,7 +95,7 @@ SectionsNeverDrift = (terms : Terms) (history : List Update) → IsListedInOrder
 
 -- ---- accepted updates of typed MPDs
 
--- the values of an MPD are those of a tree of which nothing is refused
+-- the values of an MPD are those of a valid tree
 abbrev pub IsTyped : Option Values → Type 0
 IsTyped None = Unit {0}
 IsTyped (Some mpd) = (tree : Element) × (typed_mpd_of tree ≡ Ok mpd)
@@ -120,7 +120,7 @@ SectionsNeverFall =
 
 -- ---- what is listed together, and what is kept
 
--- two segments lie in one Period and have one map
+-- two segments are in the same Period and have the same map
 pub record LieTogether (x y : Segment) : Type 0 where
   pub place : x.value.place ≡ y.value.place
   pub start : x.value.period_start ≡ y.value.period_start
@@ -133,7 +133,7 @@ SectionsHaveOneMap =
     → slice_get (all_of terms history t) i ≡ Some x → slice_get (all_of terms history t) j ≡ Some y → x.section ≡ y.section
     → LieTogether x y
 
--- each duration that was ever printed, to the nearest second, is at most the target duration (RFC 8216, 4.3.3.1)
+-- each duration that was ever printed, rounded to the nearest second, is at most the target duration (RFC 8216, 4.3.3.1)
 abbrev pub DurationsFitTarget : Type 0
 DurationsFitTarget = (terms : Terms) (history : List Update) (s : State) (t : ℕ) → Shows terms history s → AreTyped history
     → All (λ duration. rounded (unit_of terms) duration ≤ s.common.target) (durations (told (unit_of terms) (all_of terms history t)))
@@ -143,7 +143,7 @@ abbrev pub NeverEmpty : Type 0
 NeverEmpty = (terms : Terms) (history : List Update) (s : State) (t : ℕ) (playlist : FollowedPlaylist) → Shows terms history s
     → playlist_of s t ≡ Some playlist → 0 < length playlist.items
 
--- Numbers grow with the updates: so many segments and Periods each brings at most.
+-- Numbers grow with the updates: each adds a limited number of segments and Periods.
 pub record IsSmall (c : Common) (track : Track) : Type 0 where
   pub kept : length track.kept ≤ 20000
   pub listed : track.first + length track.kept ≤ 20000 * c.accepted
@@ -155,9 +155,9 @@ abbrev pub NumbersStaySmall : Type 0
 NumbersStaySmall = (terms : Terms) (history : List Update) (s : State) (t : ℕ) (track : Track) → Shows terms history s
     → slice_get s.tracks t ≡ Some track → (s.common.accepted ≤ length history) × IsSmall s.common track
 
--- ---- each playlist may take the place of the one before it
+-- ---- each playlist is a valid update of the one before it
 
--- what a followed playlist's text is read as
+-- what a segment in a live playlist's text is read as
 abbrev pub segment_of : (digits : ℕ) → Item → MediaSegment
 segment_of digits item = record {
   address = item.part.address;

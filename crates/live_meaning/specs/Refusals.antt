@@ -1,4 +1,4 @@
--- Why an update may not follow a history: the rules in their order.
+-- Why an update is rejected after a history: the rules in order.
 use Rattle.std.specs.Prelude.{ℕ, ◌+◌, ◌-◌, ℤ, Bool, true, false, ◌==◌, ◌&&◌, ◌||◌, not, nat_lt, int_lt, is_some, List, [], ◌∷◌, ◌++◌}
 use Rattle.std.specs.Prelude.{length, map, filter, flat_map, reverse, sum, Option, Some, None, option_to_list, if◌then◌else◌, Result, Ok}
 use Rattle.std.specs.{Prelude.Err, List.{list_any, last_or}, Option.option_map_or}
@@ -21,12 +21,12 @@ use Rattle.live_meaning.specs.States.{state_with}
 use Rattle.followed.specs.Durations.{Last, is_in}
 
 pub data Refusal : Type 0 where
-  -- the former instant, and the earlier one of the update
+  -- the time of the last update, and the earlier one of this update
   ClockBack : ℤ → ℤ → Refusal
   -- when the MPD in force was published, and when the new one was
   Older : ℤ → ℤ → Refusal
   Changed : Refusal
-  -- the place of the Period
+  -- the index of the Period
   Moved : ℕ → Refusal
   -- the track, the kept segment unless the kept ones ran out, and the new one
   Rewritten : ℕ → Option Timing → Timing → Refusal
@@ -36,10 +36,11 @@ pub data Refusal : Type 0 where
   LongSegment : ℕ → ℕ → Refusal
   NotDynamic : Refusal
   Ended : Refusal
-  -- the track, and how many segments it would keep; or where all tracks pass their limit, with how many they are so far
+  -- the track, and how many segments it would keep; or the track at which all tracks exceed their limit, and their number
+  -- of segments so far
   Window : ℕ → ℕ → Refusal
   Presentation : PresentationFault → Refusal
-  -- the track, the Period's place of the first track's last segment, and that of its own
+  -- the track, the Period's index of the first track's last segment, and that of its own
   Uneven : ℕ → ℕ → ℕ → Refusal
   -- a tick or a reset before the first MPD
   NotOpen : Refusal
@@ -63,9 +64,9 @@ older_than None new = []
 older_than (Some former) None = []
 older_than (Some former) (Some new) = told_if (int_lt new former) (Older former new)
 
--- ---- 5: what stays
+-- ---- 5: what may not change
 
--- an MPD that isn't dynamic need not say when it begins to be available
+-- a static MPD need not have availabilityStartTime
 abbrev pub starts_otherwise : Common → Values → Bool
 starts_otherwise c mpd =
     option_map_or (λ start. int_lt start (availability_start_of c.opened) || int_lt (availability_start_of c.opened) start)
@@ -123,7 +124,7 @@ is_same_time x y = at_most x y && at_most y x
 abbrev pub is_same_timing : Timing → Timing → Bool
 is_same_timing a b = is_same_time a.start b.start && is_same_time a.end b.end
 
--- the first pair that differs of kept and new segments, both from the back; there are no more new ones than kept ones
+-- the first pair of kept and new segments that differs, both from the end; there are no more new ones than kept ones
 abbrev pub first_other : List Timing → List Timing → Option (Option Timing × Timing)
 first_other kept [] = None
 first_other [] (new ∷ news) = Some (None, new)
@@ -151,7 +152,7 @@ abbrev pub rewritten_told : Common → Presented → (t : ℕ) → List Track �
 rewritten_told c p t [] = []
 rewritten_told c p t (track ∷ tracks) = flat_map (rewritten_in c p t track) (sections_of p) ++ rewritten_told c p (t + 1) tracks
 
--- ---- 8: a gap or an overlap behind the last segment; before a reset, tracks that stand in different Periods
+-- ---- 8: a gap or an overlap after the last segment; before a reset, tracks that are in different Periods
 
 abbrev pub extent_of : Segment → Extent
 extent_of x = record { start = x.start; end = x.end }
@@ -205,7 +206,7 @@ over_in_all t total (n ∷ ns) = told_if (nat_lt 500000 (total + n)) (Window t (
 abbrev pub window_told : List ℕ → List Refusal
 window_told counts = over_in_track 0 counts ++ over_in_all 0 0 counts
 
--- ---- 11: a new segment without an address
+-- ---- 11: a new segment without a URL
 
 abbrev pub is_new_at : Common → Presented → Track → (s : ℕ) → Timing → Bool
 is_new_at c p track s x = option_map_or (λ last. is_later last track.place (place_of (ids_of c.known) (id_at p s)) x.end) track.last true
@@ -213,7 +214,7 @@ is_new_at c p track s x = option_map_or (λ last. is_later last track.place (pla
 abbrev pub new_at : Common → Presented → Track → (t s : ℕ) → List Timing
 new_at c p track t s = filter (is_new_at c p track s) (listed_at p s t)
 
--- its place is that among the listed segments
+-- its index is that among the listed segments
 abbrev pub urls_in : Common → Presented → (t : ℕ) → Track → (s : ℕ) → List PresentationFault
 urls_in c p t track s = let new = new_at c p track t s in
     option_map_or (λ content. part_faults content.runs s t (length (listed_at p s t) - length new) new) (content_at p s t) []
@@ -224,7 +225,7 @@ urls_told c p t (track ∷ tracks) = map Presentation (flat_map (urls_in c p t t
 
 -- ---- all of them
 
--- those that an MPD alone breaks, by what was accepted before
+-- those that an MPD itself breaks, by what was accepted before
 abbrev pub mpd_told : State → Option Values → Presented → List Refusal
 mpd_told s None p = []
 mpd_told s (Some mpd) p =
@@ -233,7 +234,7 @@ mpd_told s (Some mpd) p =
     ++ moved_told s.common p
     ++ rewritten_told s.common p 0 s.tracks
 
--- by what the update leaves
+-- those that the result of the update breaks
 abbrev pub segments_told : (is_reset : Bool) → Common → List Track → List Refusal
 segments_told is_reset c tracks =
     joint_told is_reset c tracks
@@ -251,7 +252,7 @@ abbrev pub told_by : State → Update → Result Presented PresentationFault →
 told_by s u (Err fault) = Presentation fault ∷ []
 told_by s u (Ok p) = told_with s u p
 
--- an update of a state
+-- all errors of an update of a state
 abbrev pub refusals_of : State → Update → List Refusal
 refusals_of s u = ended_told s.common ++ clock_told s.common (now_of u) ++ told_by s u (force_by s.common.terms s.common.force u)
 
@@ -273,14 +274,14 @@ first_told_by mpd (Ok p) = first_told_with mpd p
 abbrev pub first_refusals_of : Terms → Values → (now : ℤ) → List Refusal
 first_refusals_of terms mpd now = first_told_by mpd (presented_of mpd terms.url (Some now))
 
--- why an update may not follow a state
+-- why a state rejects an update
 unfoldable pub refusal_of : State → Update → Option Refusal
 refusal_of s u = first_of (refusals_of s u)
 
 unfoldable pub first_refusal_of : Terms → Values → (now : ℤ) → Option Refusal
 first_refusal_of terms mpd now = first_of (first_refusals_of terms mpd now)
 
--- ---- the state that an update leaves, or why it may not follow
+-- ---- the state after an update, or why it is rejected
 
 abbrev pub next_with : State → Update → Option Refusal → Result Presented PresentationFault → Result State Refusal
 next_with s u (Some refusal) force = Err refusal
@@ -295,13 +296,13 @@ begun_by terms mpd now (Some refusal) first = Err refusal
 begun_by terms mpd now None (Ok p) = Ok (shown (begun_with (begun_common terms mpd now p)))
 begun_by terms mpd now None (Err fault) = Err (Presentation fault)
 
--- the state that the first MPD leaves
+-- the state after the first MPD
 unfoldable pub begun_of : Terms → Values → (now : ℤ) → Result State Refusal
 begun_of terms mpd now = begun_by terms mpd now (first_refusal_of terms mpd now) (presented_of mpd terms.url (Some now))
 
 -- ---- how many segments an update appends
 
--- Segments are made where nothing is refused, or the address of one of them.
+-- Segments are made where nothing is rejected, or only the URL of one of them.
 abbrev pub is_of_address : PresentationFault → Bool
 is_of_address (Url fault spot) = true
 is_of_address fault = false
@@ -315,7 +316,7 @@ abbrev pub appended_with : State → Update → Option Refusal → Result Presen
 appended_with s u refusal (Ok p) = if makes_segments refusal then new_count (common_with s.common u p) 0 s.tracks else 0
 appended_with s u refusal (Err fault) = 0
 
--- those that an accepted update appends, or that one was to append of which an address is refused; none at every other refusal
+-- those that an accepted update appends, or that an update rejected for a URL was to append; 0 for every other error
 unfoldable pub appended_by : State → Update → ℕ
 appended_by s u = appended_with s u (refusal_of s u) (force_by s.common.terms s.common.force u)
 
@@ -323,13 +324,13 @@ abbrev pub first_appended_with : Option Refusal → Result Presented Presentatio
 first_appended_with refusal (Ok p) = if makes_segments refusal then sum (counts_listed p) else 0
 first_appended_with refusal (Err fault) = 0
 
--- the same of the first MPD
+-- the same for the first MPD
 unfoldable pub first_appended_by : Terms → Values → (now : ℤ) → ℕ
 first_appended_by terms mpd now = first_appended_with (first_refusal_of terms mpd now) (presented_of mpd terms.url (Some now))
 
 -- ---- a history
 
--- Why an update may not follow a history of accepted ones. None but an MPD may come first.
+-- Why an update is rejected after a history of accepted ones. Only an MPD may come first.
 abbrev pub refusal_behind : Terms → Option State → Update → Option Refusal
 refusal_behind terms (Some s) u = refusal_of s u
 refusal_behind terms None (Refresh mpd now) = first_refusal_of terms mpd now

@@ -1,4 +1,4 @@
--- Worked runs: one track, whose segments go on to an open end from the start of its one Period on.
+-- Worked examples: one track, whose segments continue to an open end from the start of its one Period.
 use Rattle.std.specs.Prelude.{◌≡◌, ℕ, ◌*◌, ◌^◌, ℤ, pos, neg_ℤ, List, [], ◌∷◌, ◌++◌, map, true, false, Option, Some, None}
 use Rattle.bridge_io.specs.declared.media.Kind.TheVariants.{Video}
 use Rattle.exact_time.specs.{Time.Time}
@@ -51,7 +51,7 @@ presented start members following = record {
   places = [];
 }
 
--- with segments as long as the first one and a depth, at an instant
+-- with segments as long as the first one and a depth, at a time
 abbrev pub live_by : Extent → (depth now : ℕ) → Presented
 live_by x depth now =
     presented 0 (Endless x ∷ []) (Some (record { instant = second now; availability_start = pos 0; depth = Some (depth * 10 ^ 9) }))
@@ -70,7 +70,7 @@ mpd = record {
   periods = [];
 }
 
--- the first MPD, and each update with what it leaves in force
+-- the first MPD, and each update with the presentation that is then in force
 abbrev pub first_by : (digits : ℕ) → Presented → (now : ℕ) → State
 first_by digits p now = shown (begun_with (begun_common (record { url = []; digits = digits }) mpd (second now) p))
 
@@ -83,7 +83,7 @@ tick depth now s = state_with s (Tick (second now)) (live 2 depth now)
 abbrev pub reset : (depth now : ℕ) → State → State
 reset depth now s = state_with s (Reset mpd (second now)) (live 2 depth now)
 
--- of each track the first kept segment's place, and the sections and numbers of the kept ones
+-- for each track the first kept segment's index, and the sections and numbers of the kept ones
 abbrev pub kept : State → List (ℕ × List (ℕ × ℕ))
 kept s = map (λ track. (track.first, map (λ k. (k.segment.section, k.segment.value.number)) track.kept)) s.tracks
 
@@ -98,8 +98,8 @@ of section numbers = map (λ n. (section, n)) numbers
 abbrev pub old : State
 old = first 12 20
 
--- a target of three seconds, of which nine are the last five of eight; known ids from a place on, and new ones behind them; a time that is
--- rounded down; a track that would keep too many; 4.5 s above a target of 4 s, and a microsecond less that isn't
+-- a target of three seconds, of which nine are the last five of eight; known ids from an index on, and new ones after them; a time that
+-- is rounded down; a track that would keep too many; 4.5 s above a target of 4 s, and a microsecond less that isn't
 abbrev pub SmallValues : Type 0
 SmallValues =
     (target_of 1000000 2000000 None ≡ 3)
@@ -113,7 +113,7 @@ SmallValues =
     × (rounded 1000000 4500000 ≡ 5)
     × (rounded 1000000 4499999 ≡ 4)
 
--- neither an instant nor a reset may come first; an update that is refused for what it changes makes no segment
+-- neither a tick nor a reset may come first; an update that is rejected for what it changes makes no segment
 abbrev pub NotFirst : Type 0
 NotFirst = (terms : Terms) (now : ℤ) → (refusal_behind terms None (Tick now) ≡ Some NotOpen)
     × (refusal_behind terms None (Reset mpd now) ≡ Some NotOpen)
@@ -126,13 +126,14 @@ Slides =
     × (kept (tick 12 24 old) ≡ (2, of 0 (7 ∷ 8 ∷ 9 ∷ 10 ∷ 11 ∷ 12 ∷ [])) ∷ [])
     × (dates (tick 12 24 old) ≡ map second (12 ∷ 14 ∷ 16 ∷ 18 ∷ 20 ∷ 22 ∷ []) ∷ [])
 
--- 4 s of depth, at 20 s, 24 s and 28 s: three target durations stay
+-- 4 s of depth, at 20 s, 24 s and 28 s: three target durations are kept
 abbrev pub Stays : Type 0
 Stays =
     (kept (tick 4 24 (first 4 20)) ≡ (0, of 0 (9 ∷ 10 ∷ 11 ∷ 12 ∷ [])) ∷ [])
     × (kept (tick 4 28 (tick 4 24 (first 4 20))) ≡ (1, of 0 (10 ∷ 11 ∷ 12 ∷ 13 ∷ 14 ∷ [])) ∷ [])
 
--- Segments of five thirds of a second, in tenths. The third one is first at 22 s, and is printed as it was when two stood before it.
+-- Segments of five thirds of a second, in tenths. The third one is the first one at 22 s, and is printed as it was when two were
+-- before it.
 abbrev pub thirds : Extent
 thirds = record { start = record { ticks = pos 0; scale = 3 }; end = record { ticks = pos 5; scale = 3 } }
 
@@ -145,7 +146,7 @@ ThirdsGoOn =
     (printed begun ≡ (16 ∷ 17 ∷ 17 ∷ 16 ∷ 17 ∷ 17 ∷ 16 ∷ 17 ∷ []) ∷ [])
     × (printed (state_with begun (Tick (second 22)) (live_by thirds 12 22)) ≡ (17 ∷ 16 ∷ 17 ∷ 17 ∷ 16 ∷ 17 ∷ 17 ∷ []) ∷ [])
 
--- a change to segments of 3 s, of which the one from 15 s to 18 s stands against the kept one from 18 s to 20 s; segments of 5 s
+-- a change to segments of 3 s, of which the one from 15 s to 18 s differs from the kept one from 18 s to 20 s; segments of 5 s
 -- above a target of 3 s; an MPD a minute later, whose segments begin at 48 s
 abbrev pub Refused : Type 0
 Refused =
@@ -165,7 +166,8 @@ Ends =
     (kept last ≡ (2, of 0 (7 ∷ 8 ∷ 9 ∷ 10 ∷ 11 ∷ 12 ∷ 13 ∷ [])) ∷ [])
     × (refusal_of last (Tick (second 30)) ≡ Some Ended)
 
--- Resets a minute later and at 30 s begin a section. One at 60 s counts once, so that an MPD at 62 s goes on in its section.
+-- Resets a minute later and at 30 s begin a section. One at 60 s counts once, so that an MPD at 62 s continues in its
+-- section.
 abbrev pub BeginsAnew : Type 0
 BeginsAnew =
     (kept (reset 12 60 old) ≡ (6, of 1 (25 ∷ 26 ∷ 27 ∷ 28 ∷ 29 ∷ 30 ∷ [])) ∷ [])

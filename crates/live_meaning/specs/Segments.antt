@@ -8,21 +8,21 @@ use Rattle.presentation.specs.{declared.parts.Content.Content, Presented.{Presen
 use Rattle.presentation.specs.Meanings.{part_meant}
 use Rattle.followed.specs.Durations.{Last, Listed, Told}
 
--- what is told of a listed segment beside its section and times, as it was listed first
+-- what a listed segment has besides its section and times, as it was listed first
 pub record Seen : Type 0 where
-  -- its Period's place: that of the Period's id in the order in which ids were first seen
+  -- its Period's index: that of the Period's id in the order in which ids were first seen
   pub place : ℕ
   -- when its Period begins, in nanoseconds from the presentation's start
   pub period_start : ℕ
   pub part : Part
-  -- what initializes it
+  -- its init segment
   pub map : Part
   pub number : ℕ
   -- when it begins: nanoseconds since 1970-01-01T00:00:00Z, rounded down
   pub date : ℤ
 
--- Its section is its Period's place, and one more for each reset up to the update that listed it first. Its times are
--- from the Period's start.
+-- Its section is its Period's index, plus one for each reset up to the update that listed it first. Its times are relative
+-- to the Period's start.
 abbrev pub Segment : Type 0
 Segment = Listed Seen
 
@@ -43,9 +43,9 @@ segments_of ts = map (λ t. t.segment) ts
 abbrev pub whole_nanos : Time → ℤ
 whole_nanos x = int_div_euclid (x.ticks *ℤ pos 1000000000) (pos x.scale)
 
--- how the segments are numbered and dated that an update lists
+-- how the segments of an update are numbered and dated
 pub record Numbering : Type 0 where
-  -- all ids that were seen, in the order of first sight
+  -- all ids that were seen, in the order in which they were first seen
   pub ids : List (List ℕ)
   pub resets : ℕ
   pub availability_start : ℤ
@@ -79,16 +79,16 @@ listed_in_period n p t s =
 abbrev pub listed_of : Numbering → Presented → (track : ℕ) → List Segment
 listed_of n p t = flat_map (listed_in_period n p t) (sections_of p)
 
--- the Period's place of the last one, behind one of a place
+-- the Period's index of the last one; the argument where there is none
 abbrev pub place_behind : (place : ℕ) → List Segment → ℕ
 place_behind place [] = place
 place_behind place (x ∷ xs) = place_behind x.value.place xs
 
--- in a Period of a later place than the last one's, or in the same one with a later end
+-- in a later Period than the last one's, or in the same one with a later end
 abbrev pub is_later : Last → (last_place place : ℕ) → (end : Time) → Bool
 is_later last last_place place end = nat_lt last_place place || last_place == place && before last.end end
 
--- those behind the last one that was listed before, and its Period's place; all where there was none
+-- those after the last one that was listed before, which has this Period's index; all where there was none
 abbrev pub behind : (last : Option Last) → (place : ℕ) → List Segment → List Segment
 behind None place xs = xs
 behind (Some last) place xs = filter (λ x. is_later last place x.value.place x.end) xs

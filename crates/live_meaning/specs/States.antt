@@ -1,12 +1,12 @@
--- What is kept of a history, and what an update makes of that.
+-- The state of a history, and how an update changes it.
 use Rattle.std.specs.Prelude.{ℕ, ◌+◌, List, [], ◌∷◌, ◌++◌, length, map, drop, Option, None, option_map}
 use Rattle.presentation.specs.Presented.{Presented}
 use Rattle.followed.specs.Durations.{Last, durations, last_behind, told, told_behind}
 use Rattle.live_meaning.specs.{Updates.{Update, Terms, unit_of}, Segments.{Kept, Segment, behind, listed_of, place_behind}}
 use Rattle.live_meaning.specs.{Removal.removed_of, Histories.{Common, Past, Whole, common_with, least_length, numbering_of, whole_of}}
 
--- of a track: the kept segments with their durations, the place of the first one among all, the last one that was
--- listed with the start of its section's first segment ever listed, and that one's Period's place
+-- a track: the kept segments with their durations, the index of the first one among all, the last one that was listed with
+-- the start of its section's first segment ever listed, and its Period's index
 pub record Track : Type 0 where
   pub kept : List Kept
   pub first : ℕ
@@ -29,13 +29,13 @@ track_of unit past =
 abbrev pub shown : Whole → State
 shown w = record { common = w.common; tracks = map (track_of (unit_of w.common.terms)) w.pasts }
 
--- what accepted updates leave, the first one first; none leave nothing
+-- the state after accepted updates, the first one first; `None` after none
 unfoldable pub state_of : Terms → List Update → Option State
 state_of terms history = option_map shown (whole_of terms history)
 
--- ---- what an update makes of a state
+-- ---- how an update changes a state
 
--- what an update lists behind the last segment of a track, in the presentation and the numbering that it leaves
+-- what an update lists after the last segment of a track, in the new presentation and numbering
 abbrev pub new_of : Common → (track : ℕ) → Track → List Segment
 new_of c t track = behind track.last track.place (listed_of (numbering_of c) c.force t)
 
@@ -66,11 +66,11 @@ abbrev pub tracks_after : Common → (track : ℕ) → List Track → List Track
 tracks_after c t [] = []
 tracks_after c t (track ∷ tracks) = track_after c t track ∷ tracks_after c (t + 1) tracks
 
--- the state behind an update whose presentation this is
+-- the state after an update with this presentation
 unfoldable pub state_with : State → Update → Presented → State
 state_with s u p = let c = common_with s.common u p in record { common = c; tracks = tracks_after c 0 s.tracks }
 
--- how many segments an update lists behind the last ones
+-- how many segments an update lists after the last ones
 abbrev pub new_count : Common → (track : ℕ) → List Track → ℕ
 new_count c t [] = 0
 new_count c t (track ∷ tracks) = length (new_of c t track) + new_count c (t + 1) tracks

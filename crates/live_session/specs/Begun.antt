@@ -1,4 +1,4 @@
--- What a first MPD begins.
+-- Beginning a session with a first MPD.
 use Rattle.std.specs.Prelude.{◌≡◌, ℕ, ◌+◌, ◌<◌, ◌≤◌, ℤ, pos, not, All, List, [], ◌∷◌, ◌++◌, length, map, replicate, unwrap_or, Some, Ok}
 use Rattle.std.specs.Prelude.{Err, IfSome}
 use Rattle.iso_time.specs.Instant.{IsReadable}
@@ -12,15 +12,15 @@ use Rattle.live_judge.specs.{declared.fault.RefreshFault.RefreshFault, declared.
 use Rattle.live_judge.specs.{declared.track.LiveTrack.LiveTrack, Faults.told, Known.StandsAt, Shown.{common_shown, track_shown}}
 use Rattle.live_session.specs.{Growth.tracks_grown, Kept.{AreSideBySide, empty_track}, Sessions.CountsRefused, Written.AreDated}
 
--- why it is refused, but for the addresses of segments
+-- why it is rejected, except for the URLs of segments
 abbrev pub first_judged : Values → Presented → List Refusal
 first_judged mpd p = map Presentation (count_faults p) ++ told_if (not mpd.facts.live) NotDynamic ++ window_told (counts_listed p)
 
--- tracks of which nothing was listed yet
+-- tracks without listed segments
 abbrev pub empty_tracks : Presented → List Track
 empty_tracks p = replicate (length p.tracks) empty_track
 
--- what an MPD leaves beside its tracks, where it has this presentation at an instant, and is the first one
+-- the state after a first MPD without the tracks, where it has this presentation at a time
 pub record IsFirst (c : Common) (p : Presented) (now : ℤ) (digits : ℕ) (start : ℤ) : Type 0 where
   pub force : looked_at now p ≡ c.force
   pub printed : digits ≡ c.terms.digits
@@ -28,7 +28,7 @@ pub record IsFirst (c : Common) (p : Presented) (now : ℤ) (digits : ℕ) (star
   pub starts : start ≡ availability_start_of c.opened
   pub places : (s : ℕ) → s < length c.force.sections → place_of (ids_of c.known) (id_at c.force s) ≡ 0 + s
 
--- tracks have all that is listed, and each segment has an address
+-- tracks have all that is listed, and each segment has a URL
 pub record AreFirst (c : Common) (tracks : List LiveTrack) (before after : ℕ) : Type 0 where
   pub shown : map track_shown tracks ≡ tracks_grown c 0 (empty_tracks c.force)
   pub paired : All AreSideBySide tracks
@@ -36,7 +36,7 @@ pub record AreFirst (c : Common) (tracks : List LiveTrack) (before after : ℕ) 
   pub urls : urls_told c c.force 0 (empty_tracks c.force) ≡ []
   pub counted : after ≡ before + new_count c 0 (empty_tracks c.force)
 
--- what stands beside them
+-- the state without the tracks
 pub record IsFirstStanding (terms : Terms) (mpd : Values) (now : ℤ) (p : Presented) (s : Standing) : Type 0 where
   pub common : common_shown s ≡ begun_common terms mpd now p
   pub place : s.place ≡ 0
@@ -46,7 +46,7 @@ pub record IsFirstStanding (terms : Terms) (mpd : Values) (now : ℤ) (p : Prese
 
 -- ---- a session
 
--- nothing of it is refused but addresses
+-- it is valid except for URLs
 pub record IsFirstMpd (terms : Terms) (mpd : Values) (now : ℤ) (p : Presented) : Type 0 where
   pub made : presented_of mpd terms.url (Some now) ≡ Ok p
   pub judged : first_judged mpd p ≡ []

@@ -1,4 +1,4 @@
--- What an update changes beside the tracks, and what it is planned to add to them.
+-- What an update changes apart from the tracks, and what it is planned to add to them.
 use Rattle.std.specs.Prelude.{◌≡◌, ℕ, ◌+◌, ◌-◌, ◌<◌, ◌≤◌, ◌^◌, ◌⊎◌, ℤ, pos, All, List, [], ◌++◌, length, map, sum, IfSome, Option}
 use Rattle.std.specs.{Prelude.{None, Some, Ok, Err, unwrap_or, if◌then◌else◌}, List.range_with_len}
 use Rattle.presentation.specs.{declared.fault.PresentationFault.PresentationFault, Presented.{Presented, looked_at}}
@@ -13,7 +13,7 @@ use Rattle.live_session.specs.{declared.change.Change.Change, declared.change.Pl
 use Rattle.live_session.specs.{Growth.{HaveRoom, IsTrimmable, grown}, Kept.AreSideBySide, Making.{AreMade, AreUnmade, all_kept}}
 use Rattle.live_session.specs.Sessions.{CountsRefused}
 
--- ---- beside the tracks
+-- ---- apart from the tracks
 
 abbrev pub newest_with : (coming former : Option Presented) → Option Presented
 newest_with None former = former
@@ -32,16 +32,16 @@ changed s newest change = record s {
 abbrev pub resets_with : ℕ → Update → ℕ
 resets_with resets u = if is_reset u then resets + 1 else resets
 
--- the presentation that would be in force, at the instant at which its MPD came
+-- the presentation that would be in force, at the time of its MPD
 abbrev pub force_of : Standing → (newest : Option Presented) → Presented
 force_of s newest = unwrap_or newest (unwrap_or s.newest s.opened)
 
--- it is that of the MPD that comes, or it is in force already
+-- it is that of the update's MPD, or it is in force already
 pub record IsPresented (s : Standing) (coming : Coming) (now : ℤ) (force : Presented) : Type 0 where
   pub comes : Comes s coming force now
   pub forced : force_by (common_shown s).terms (in_force s) (update_of coming now) ≡ Ok (looked_at now force)
 
--- a refusal is that of an MPD without a presentation
+-- an error is that of an MPD without a presentation
 abbrev pub IsUnpresented : Standing → Update → Refusal → Type 0
 IsUnpresented s u refusal = (fault : PresentationFault) × (force_by (common_shown s).terms (in_force s) u ≡ Err fault) ×
     (refusal ≡ Presentation fault)
@@ -58,7 +58,7 @@ shown_in n = map track_shown n.tracks.now
 abbrev pub new_in_all : Next → ℕ
 new_in_all n = new_count (coming_of n) 0 (shown_in n)
 
--- the new segments of an update were made; no track where there are none at all
+-- the new segments of an update were made; the list is empty where there are none at all
 pub record AreNewOf (n : Next) (new : List MadeTrack) (before after : ℕ) : Type 0 where
   pub made : AreMade (coming_of n) (shown_in n) new before after
   pub many : length new ≤ length n.tracks.now
@@ -71,7 +71,7 @@ pub record AreNotMade (n : Next) (fault : RefreshFault) (before after : ℕ) : T
 
 -- ---- a plan
 
--- what an update changes is made
+-- the changes of an update are prepared
 pub record IsPlanOf (n : Next) (plan : Plan) (before after : ℕ) : Type 0 where
   pub made : AreNewOf n plan.made.items before after
   pub periods : map known_shown plan.periods.items ≡ map (known_at n.force.now)
@@ -81,33 +81,33 @@ pub record IsPlanOf (n : Next) (plan : Plan) (before after : ℕ) : Type 0 where
   pub published : plan.change.published ≡ published_by (n.standing.now).published (mpd_of (update_of n.coming (pos 0)))
   pub resets : plan.change.resets ≡ resets_with (n.standing.now).resets (update_of n.coming (pos 0))
 
--- an address is missing, or memory, which no Periods need where none is new
+-- a URL is missing, or memory ran out, which can't happen for Periods where none is new
 abbrev pub IsUnplanned : Next → RefreshFault → (before after : ℕ) → Type 0
 IsUnplanned n fault before after = AreNotMade n fault before after
     ⊎ ((fault ≡ Memory) × (after ≡ before + new_in_all n) × (first_new n ≡ length (n.force.now).sections → ⊥))
 
--- An update is refused, or memory is wanting for it, which an instant alone without new segments doesn't need.
+-- An update is rejected, or memory runs out, which can't happen for a tick without new segments.
 pub record IsRefused (s : State) (u : Update) (fault : RefreshFault) (before after : ℕ) : Type 0 where
   pub refused : IfSome (told fault) (λ refusal. refusal_of s u ≡ Some refusal)
   pub counted : CountsRefused (appended_by s u) before after fault
   pub ticks : mpd_of u ≡ None → appended_by s u ≡ 0 → fault ≡ Memory → ⊥
 
--- and the state stays
+-- and the state is unchanged
 pub record IsLeft (s : State) (u : Update) (fault : RefreshFault) (new : State) (before after : ℕ) : Type 0 where
   pub same : new ≡ s
   pub refusal : IsRefused s u fault before after
 
--- An update is accepted, with so many segments.
+-- An update is accepted, with `n` segments.
 pub record IsTaken (s : State) (u : Update) (n : ℕ) (new : State) (before after : ℕ) : Type 0 where
   pub next : next_of s u ≡ Ok new
   pub appended : n ≡ appended_by s u
   pub counted : after ≡ before + appended_by s u
 
--- what an update leaves beside the tracks whose presentation is looked at at its instant
+-- the state after an update without the tracks, with its presentation at its time
 abbrev pub left_by : Standing → (coming : Coming) → (now : ℤ) → (force : Presented) → Common
 left_by s coming now force = common_with (common_shown s) (update_of coming now) (looked_at now force)
 
--- An update is accepted whose presentation this is, and all that it changes is made.
+-- An update with this presentation is accepted, and all its changes are prepared.
 pub record IsPlan (s : Standing) (tracks : List LiveTrack) (coming : Coming) (now : ℤ) (force : Presented) (plan : Plan)
     (before after : ℕ) : Type 0 where
   pub forced : force_by (common_shown s).terms (in_force s) (update_of coming now) ≡ Ok (looked_at now force)
@@ -124,7 +124,7 @@ pub record IsPlan (s : Standing) (tracks : List LiveTrack) (coming : Coming) (no
   pub unmade : new_count (left_by s coming now force) 0 (map track_shown tracks) ≡ 0 → plan.made.items ≡ []
   pub seen : mpd_of (update_of coming now) ≡ None → plan.periods.items ≡ []
 
--- what was made may be added to tracks, and they may lose their fronts
+-- the new segments may be added to tracks, and their first ones removed
 pub record CanGoOn (s : Standing) (tracks : List LiveTrack) (made : List MadeTrack) : Type 0 where
   pub few : sum (map length (all_kept made)) < 2 ^ 63
   pub room : HaveRoom tracks made

@@ -1,4 +1,4 @@
--- The tracks of a session as they grow and lose their front.
+-- The tracks of a session as segments are added and removed.
 use Rattle.std.specs.Prelude.{◌≡◌, ℕ, ◌+◌, ◌*◌, ◌^◌, ◌<◌, List, [], ◌∷◌, length, slice_get, Some}
 use Rattle.exact_time.specs.declared.tick.Tick.{Tick}
 use Rattle.hls_writer.specs.declared.items.MediaItem.{MediaItem}
@@ -8,22 +8,22 @@ use Rattle.live_judge.specs.{declared.standing.Standing.Standing, declared.track
 use Rattle.live_judge.specs.Shown.{in_force}
 use Rattle.live_session.specs.{declared.made.MadeTrack.MadeTrack, Kept.{HasRoom, with_all, without_front}}
 
--- what a track has, whatever room there is for more
+-- the content of a track, whatever room there is for more
 abbrev pub inside_of : LiveTrack → List MediaItem × List Fact × ℕ × Tick
 inside_of track = (track.items.items, track.facts.items, track.first, track.begin)
 
--- there is room for what was made of each track
+-- there is room for the new segments of each track
 abbrev pub HaveRoom : List LiveTrack → List MadeTrack → Type 0
 HaveRoom tracks made = (t : ℕ) (track : LiveTrack) (new : MadeTrack) → slice_get tracks t ≡ Some track → slice_get made t ≡ Some new
     → HasRoom (length new.segments.items) track
 
--- with what was made of some of the tracks from the first one on
+-- with the new segments of some of the tracks from the first one on
 abbrev pub grown : List Track → List (List Kept) → List Track
 grown tracks [] = tracks
 grown [] (new ∷ news) = []
 grown (track ∷ tracks) (new ∷ news) = with_all track new ∷ grown tracks news
 
--- with what an update lists behind their last segments, the first of them with a place
+-- a track with what an update lists after its last segment, given the track's index
 abbrev pub track_grown : Common → (t : ℕ) → Track → Track
 track_grown c t track = record {
   kept = kept_and_new c t track;
@@ -40,7 +40,7 @@ tracks_grown c t (track ∷ tracks) = track_grown c t track ∷ tracks_grown c (
 abbrev pub trimmed : Standing → Track → Track
 trimmed s track = without_front (removed_of (in_force s).following (3 * s.target * 10 ^ s.digits) track.kept) track
 
--- some are kept, and their places fit a number
+-- some are kept, and their indices fit a number
 pub record IsTrimmable (track : Track) : Type 0 where
   pub some : 0 < length track.kept
   pub fits : track.first + length track.kept < 2 ^ 63

@@ -1,4 +1,4 @@
--- What is kept of a followed track.
+-- The state of a followed track.
 use Rattle.std.specs.Prelude.{◌≡◌, ℕ, ◌+◌, ◌≤◌, List, [], ◌∷◌, ◌++◌, length, drop, false, ◌==◌, if◌then◌else◌, Option, None, Some}
 use Rattle.std.specs.Option.{option_map_or}
 use Rattle.exact_time.specs.{Time.Time, Tick.time_of, declared.tick.Tick.Tick}
@@ -11,23 +11,23 @@ abbrev pub no_place : Option LastKept → ℕ
 no_place None = 0
 no_place (Some l) = l.place
 
--- its two rings go side by side
+-- its two rings are parallel
 abbrev pub AreSideBySide : LiveTrack → Type 0
 AreSideBySide t = length t.items.items ≡ length t.facts.items
 
--- they hold so many more
+-- they have room for `more` members
 pub record HasRoom (more : ℕ) (t : LiveTrack) : Type 0 where
   pub items : length t.items.items + more ≤ t.items.capacity
   pub facts : length t.facts.items + more ≤ t.facts.capacity
 
--- when the section begins of a segment behind a track's last one
+-- when the section of a segment after a track's last one begins
 abbrev pub begun_at : Track → (begin start : Time) → (section : ℕ) → Time
 begun_at track begin start section = if option_map_or (λ (l : Last). l.section == section) track.last false then begin else start
 
 abbrev pub IsBegunAt : LiveTrack → Made → Tick → Type 0
 IsBegunAt t made result = time_of result ≡ begun_at (track_shown t) (time_of t.begin) (time_of made.fact.span.start) made.item.section
 
--- ---- a track that grows, and loses its front
+-- ---- adding and removing segments of a track
 
 abbrev pub empty_track : Track
 empty_track = record { kept = []; first = 0; last = None; place = 0 }

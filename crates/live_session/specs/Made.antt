@@ -13,11 +13,11 @@ made_kept m = kept_of m.item m.fact
 abbrev pub all_made : List Made → List Kept
 all_made made = map made_kept made
 
--- when a segment begins: from when the presentation begins to be available, when its Period begins, and its start in that
+-- the date of a segment: by availabilityStartTime, the start of its Period, and its start in that
 abbrev pub date_of : (availability_start : ℤ) → (period_start : ℕ) → Time → ℤ
 date_of availability_start period_start start = (availability_start +ℤ pos period_start) +ℤ whole_nanos start
 
--- a segment that was made, with its printed duration, in the Period of a place
+-- a segment that was made, with its printed duration, in the Period with an index
 abbrev pub kept_as : Numbering → (place period_start : ℕ) → (map : Part) → Listed → (duration : ℕ) → Kept
 kept_as n place period_start map made duration = record {
   segment = record {

@@ -1,4 +1,4 @@
--- What is so of segments as they are made one by one.
+-- What holds for segments as they are made one by one.
 use Rattle.std.specs.Prelude.{◌≡◌, ◌⊎◌, ℕ, ◌+◌, ◌-◌, ◌^◌, ◌<◌, ◌≤◌, pos, neg_ℤ, ◌==◌, All, List, [], ◌∷◌, ◌++◌, length, map, slice_get, sum}
 use Rattle.std.specs.Prelude.{option_map, Option, Some, None, IfSome, Result, Ok, Err, MatchOption, MatchResult, IsSome, if◌then◌else◌}
 use Rattle.bridge_io.specs.Firsts.{first_of}
@@ -32,7 +32,7 @@ abbrev pub behind_in : (number : ℕ) → Option LastKept → Option Behind
 behind_in number None = None
 behind_in number (Some l) = if l.section == number then Some (record { first = l.begin; former = l.end }) else None
 
--- a start from which a date can be told: at most 1,000,000 s before its Period, and 10^11 s behind its start
+-- a start from which a date can be computed: at most 1,000,000 s before its Period's start, and at most 10^11 s after it
 pub record IsNear (start : Time) : Type 0 where
   pub is : IsTime start
   pub low : IsAtMost (record { ticks = neg_ℤ (pos 1000000); scale = 1 }) start
@@ -41,7 +41,7 @@ pub record IsNear (start : Time) : Type 0 where
 abbrev pub number_of : Maker → (section : ℕ) → ℕ
 number_of m s = m.place + s + m.resets
 
--- the durations of a section's new segments go on behind the last one where it lies in that section
+-- the durations of a section's new segments continue after the last one, where it is in that section
 abbrev pub GoesOnIn : Maker → (section track : ℕ) → Option LastKept → Type 0
 GoesOnIn m s t last = IfSome (behind_in (number_of m s) last) (λ b.
     (end_in (m.place + s) last ≡ Some b.former) × GoesOn (listed_at (shown_by m) s t) b)
@@ -74,7 +74,7 @@ pub record IsDone (old new : PrintedRest) (before after : ℕ) : Type 0 where
   pub end : IsAtEnd old new
   pub counted : after ≡ before
 
--- it has no address, or memory was wanting
+-- it has no URL, or memory ran out
 pub record IsRefused (old : PrintedRest) (before after : ℕ) (fault : ListFault) : Type 0 where
   pub refused : IfSome (list_refusal fault)
       (λ f. IsSome (slice_get old.left 0) × IfSome (slice_get old.left 0) (λ x. part_of_timing old.timeline x.times ≡ Err f))
@@ -87,7 +87,7 @@ IsNextMade m s map old new before after result =
 
 -- ---- those of a section, and of a track
 
--- New segments were made behind others, each with the duration that it has behind them. Each has an address, and its date can be
+-- New segments were made after others, each with the duration that it has after them. Each has a URL, and its date can be
 -- written.
 pub record IsMadeBehind (unit : ℕ) (last : Option Last) (new : List Segment) (faults : List PresentationFault) (old made : List Kept)
     (before after : ℕ) : Type 0 where
@@ -96,17 +96,17 @@ pub record IsMadeBehind (unit : ℕ) (last : Option Last) (new : List Segment) (
   pub dates : All IsDated old → All IsDated made
   pub counted : after ≡ before + length new
 
--- the first fault is told, unless memory is wanting, and at most so many were made
+-- the first fault is returned, unless memory runs out, and at most `most` were made
 pub record IsNotMade (faults : List PresentationFault) (most : ℕ) (fault : PresentationFault) (before after : ℕ) : Type 0 where
   pub refused : IfSome (refusal fault) (λ f. slice_get faults 0 ≡ Some f)
   pub least : before ≤ after
   pub most_made : after ≤ before + most
 
--- a last segment lies in a section before one of a number
+-- a last segment is in a section before that of a number
 abbrev pub IsBelow : Option Last → (number : ℕ) → Type 0
 IsBelow last number = IfSome last (λ l. l.section < number)
 
--- The last one so far is the track's, in or before the section, or both lie in sections before it.
+-- The last one so far is the track's, in or before the section, or both are in sections before it.
 abbrev pub StandsBefore : (track last : Option Last) → (number : ℕ) → Type 0
 StandsBefore track last number = (last ≡ track) ⊎ (IsBelow last number × IsBelow track number)
 
@@ -129,7 +129,7 @@ AreMakeable m tracks = (t : ℕ) (track : LiveTrack) → slice_get tracks t ≡ 
 abbrev pub all_kept : List MadeTrack → List (List Kept)
 all_kept made = map (λ (track : MadeTrack). all_made track.segments.items) made
 
--- it is to make what is new of a presentation in force, whose Periods have the places from its own one on
+-- it makes what is new of a presentation in force, whose Periods have the indices from `place` on
 pub record IsMakerFor (c : Common) (m : Maker) : Type 0 where
   pub force : shown_by m ≡ c.force
   pub digits : m.digits ≡ c.terms.digits
@@ -137,7 +137,7 @@ pub record IsMakerFor (c : Common) (m : Maker) : Type 0 where
   pub start : m.availability_start ≡ availability_start_of c.opened
   pub places : (s : ℕ) → s < length c.force.sections → place_of (ids_of c.known) (id_at c.force s) ≡ m.place + s
 
--- What is new was made of tracks, and each segment has an address.
+-- The new segments of tracks were made, and each has a URL.
 pub record AreMade (c : Common) (tracks : List Track) (made : List MadeTrack) (before after : ℕ) : Type 0 where
   pub grown_is : grown tracks (all_kept made) ≡ tracks_grown c 0 tracks
   pub urls : urls_told c c.force 0 tracks ≡ []
@@ -145,7 +145,7 @@ pub record AreMade (c : Common) (tracks : List Track) (made : List MadeTrack) (b
   pub dates : All (All IsDated) (all_kept made)
   pub counted : after ≡ before + new_count c 0 tracks
 
--- The first segment without an address is told, unless memory is wanting.
+-- The first segment without a URL is reported, unless memory runs out.
 pub record AreUnmade (c : Common) (tracks : List Track) (fault : RefreshFault) (before after : ℕ) : Type 0 where
   pub refused : IfSome (told fault) (λ refusal. first_of (urls_told c c.force 0 tracks) ≡ Some refusal)
   pub counted : CountsRefused (new_count c 0 tracks) before after fault

@@ -1,5 +1,5 @@
--- Which segments an update lists behind those that were listed before: Period by Period, where the Periods have the places from
--- a first one on.
+-- Which segments an update lists after those that were listed before: Period by Period, where the Periods have consecutive
+-- indices.
 use Rattle.std.specs.Prelude.{◌≡◌, ℕ, ◌+◌, ◌-◌, ◌^◌, ◌<◌, ◌≤◌, true, List, [], ◌∷◌, map, filter, flat_map, length, Option, Some, None}
 use Rattle.std.specs.{Prelude.{option_map, false, IfSome}, Option.option_map_or}
 use Rattle.exact_time.specs.{Tick.time_of, Time.IsAtMost, declared.tick.Tick.Tick}
@@ -16,7 +16,7 @@ use Rattle.live_session.specs.{declared.maker.Maker.Maker, Kept.no_place}
 
 -- ---- the new segments of a track
 
--- a track of which these are the last segment and its Period's place
+-- a track with this last segment and its Period's index
 abbrev pub track_at : Option LastKept → Track
 track_at last = record { kept = []; first = 0; last = option_map last_of last; place = no_place last }
 
@@ -35,9 +35,9 @@ new_among n p k track t sections = flat_map (new_in n p k track t) sections
 abbrev pub new_all : Numbering → Presented → (k : ℕ) → Track → (t : ℕ) → List Segment
 new_all n p k track t = new_among n p k track t (sections_of p)
 
--- ---- those without an address
+-- ---- those without a URL
 
--- a segment's place is that among the listed ones
+-- a segment's index is that among the listed ones
 abbrev pub faults_by : (s t : ℕ) → (listed : ℕ) → List Timing → Content → List PresentationFault
 faults_by s t listed new content = part_faults content.runs s t (listed - length new) new
 
@@ -50,15 +50,15 @@ new_faults_among p k track t sections = flat_map (new_faults_in p k track t) sec
 abbrev pub new_faults_of : Presented → (k : ℕ) → Track → (t : ℕ) → List PresentationFault
 new_faults_of p k track t = new_faults_among p k track t (sections_of p)
 
--- ---- how they go on behind the last one
+-- ---- how they continue after the last one
 
--- the first of some segments, where it lies in the section of the last one, has no gap or overlap of more than half its duration
+-- the first of some segments, where it is in the section of the last one, has no gap or overlap of more than half its duration
 abbrev pub joins : Option Last → List Segment → Type 0
 joins None xs = Unit {0}
 joins (Some l) [] = Unit {0}
 joins (Some l) (x ∷ xs) = x.section ≡ l.section → is_apart (Some l.end) (extent_of x) ≡ false
 
--- the last one ends behind where its section begins, and its section is that of its Period and some resets so far
+-- the last one ends after its section begins, and its section is that of its Period and some resets so far
 pub record IsBegun (resets : ℕ) (track : Track) : Type 0 where
   pub begun : IfSome track.last (λ l. IsAtMost l.first l.end)
   pub numbered : IfSome track.last (λ l. l.section ≤ track.place + resets)
@@ -81,6 +81,6 @@ abbrev pub later_listed : Option Tick → List Timing → List Timing
 later_listed None xs = xs
 later_listed (Some end) xs = later_than (time_of end) xs
 
--- what is left to be made of them
+-- those of them that are still to be made
 abbrev pub left_to_make : Option Behind → (unit : ℕ) → SegmentTimeline → List Timing → PrintedRest
 left_to_make behind unit timeline xs = printed_rest (record { timeline = timeline; left = xs }) (rounding_at behind unit xs)

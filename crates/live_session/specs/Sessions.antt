@@ -1,4 +1,4 @@
--- What a session keeps true, and what its calls say.
+-- The invariant of a session, and what its calls ensure.
 use Rattle.live_judge.specs.declared.fault.RefreshFault.TheVariants as fault
 use Rattle.std.specs.Prelude.{◌≡◌, ℕ, ◌+◌, ◌≤◌, ℤ, All, List, [], ◌∷◌, ◌++◌, length, IfSome, MatchResult, None, Some, Option, Result}
 use Rattle.std.specs.{Prelude.{Ok, Err}, Option.option_map_or}
@@ -11,7 +11,8 @@ use Rattle.live_judge.specs.{declared.track.LiveTrack.LiveTrack, Faults.told, Kn
 use Rattle.live_judge.specs.SoundGoesOn.{IsKept, NumbersFit}
 use Rattle.live_session.specs.{Kept.AreSideBySide, Written.AreDated}
 
--- Accepted updates of typed MPDs leave it. Of each of its tracks, at most 200, segments are kept whose dates can be written.
+-- It is the state after accepted updates of typed MPDs. It has at most 200 tracks, and the dates of their kept segments can
+-- be written.
 pub record IsReached (s : State) : Type 0 where
   pub terms : Terms
   pub history : List Update
@@ -34,8 +35,8 @@ pub record IsSession (s : Standing) (tracks : List LiveTrack) : Type 0 where
 
 -- ---- what is made
 
--- An accepted update makes as many segments as it appends; one of which an address is refused, or for which memory is wanting, at most
--- as many as it was to append; and one that is refused otherwise makes none.
+-- An accepted update makes as many segments as it appends; one that is rejected for a URL, or for which memory runs out, at most as
+-- many as it was to append; and one that is rejected otherwise makes none.
 abbrev pub CountsRefused : (n before after : ℕ) → RefreshFault → Type 0
 CountsRefused n before after fault.Memory = (before ≤ after) × (after ≤ before + n)
 CountsRefused n before after (fault.Presentation (Url f spot)) = (before ≤ after) × (after ≤ before + n)
@@ -47,12 +48,12 @@ Counts n before after (Err f) = CountsRefused n before after f
 
 -- ---- updates
 
--- a new version of the MPD at an instant, or the instant alone
+-- a new version of the MPD at a time, or only the time
 abbrev pub refresh_by : Option Values → (now : ℤ) → Update
 refresh_by None now = Tick now
 refresh_by (Some mpd) now = Refresh mpd now
 
--- the history with an update more is shown, or it refuses the update
+-- the state is that of the history with the update, or the update is rejected
 abbrev pub Goes : {X : Type 0} → Terms → (history : List Update) → Update → Result X RefreshFault → State → Type 0
 Goes terms history u result after =
     MatchResult result (λ _. Shows terms (history ++ u ∷ []) after)

@@ -10,7 +10,7 @@ IsDated k = IsWritable k.segment.value.date
 abbrev pub AreDated : Track → Type 0
 AreDated track = All IsDated track.kept
 
--- its two rings go side by side, and each segment's date can be written
+-- its two rings are parallel, and each segment's date can be written
 pub record IsWritten (track : LiveTrack) : Type 0 where
   pub paired : length track.items.items ≡ length track.facts.items
   pub dates : AreDated (track_shown track)

@@ -1,4 +1,4 @@
-// What a first MPD begins.
+// Beginning a session with a first MPD.
 ghost use Rattle.std.specs.Prelude.{◌≡◌, ℕ, ◌<◌, ◌≤◌, [], All, IfOk, MatchResult};
 ghost use Rattle.std.specs.Prelude.{flat_map, length, map, pos, replicate, true, unwrap_or};
 ghost use Rattle.iso_time.specs.Instant.{IsReadable};
@@ -30,10 +30,10 @@ use presentation::{Presentation, PresentationFault};
 use std::alloc::Global;
 use url_parts::Base;
 
-/// How many segments may be kept of a track.
+/// The most segments of a track that are kept.
 const TRACK_LIMIT: u128 = 20_000;
 
-/// Judges a first MPD, of which there is a presentation, by all rules but that on the addresses of segments. It takes no memory.
+/// Checks a first MPD, which has a presentation, by all rules except that on the URLs of segments. It allocates nothing.
 #[tactic(auto, using(crate::proofs::Beginning::count_none))]
 pub(crate) fn check_first(mpd: &Mpd, opened: &Presentation) -> Result<(), RefreshFault>
     ensures { Judges result (spec.first_judged (segments_mpd mpd.now) opened.now) }
@@ -48,7 +48,7 @@ pub(crate) fn check_first(mpd: &Mpd, opened: &Presentation) -> Result<(), Refres
     check_window(opened)
 }
 
-/// Whether no more segments of a track are listed than may be kept. All tracks together are within their limit, since they are
+/// Rejects more listed segments of a track than may be kept. All tracks together are within their limit, since they were
 /// counted.
 #[tactic(auto, using(crate::proofs::Beginning::within_window))]
 fn check_window(opened: &Presentation) -> Result<(), RefreshFault>
@@ -137,7 +137,7 @@ fn empty_tracks(alloc: Global, count: usize) -> Result<Vec<LiveTrack>, NoMemory>
     Ok(tracks)
 }
 
-/// When a dynamic MPD begins to be available: no rule lets one through that doesn't say it.
+/// The availabilityStartTime of a dynamic MPD: the rules reject one without it.
 pub(crate) fn start_of(mpd: &Mpd) -> Instant
     ensures start { result ≡ unwrap_or (segments_mpd mpd.now).facts.availability_start (pos 0) }
     ensures readable { IsReadable result }
@@ -145,7 +145,7 @@ pub(crate) fn start_of(mpd: &Mpd) -> Instant
     mpd.availability_start().unwrap_or(Instant(0))
 }
 
-/// What a first MPD leaves beside its tracks.
+/// The state after a first MPD without the tracks.
 pub(crate) fn first_standing(
     alloc: Global,
     mpd: &Mpd,

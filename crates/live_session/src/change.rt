@@ -1,4 +1,4 @@
-// What an update changes beside the tracks, and what it adds to them.
+// What an update changes apart from the tracks, and what it adds to them.
 ghost use Rattle.std.specs.Prelude.{◌≡◌, ◌++◌, ◌-◌, ◌<◌, ◌==◌, [], length, map, pos, sum, true, false};
 ghost use Rattle.std.specs.Prelude.{All, IfErr, IfOk, IfSome, IsErrOf, IsOk, MatchResult, None, OnErr, OnOk};
 ghost use Rattle.std.specs.List.{range_with_len};
@@ -32,17 +32,17 @@ use mpd_presentation::{from_mpd, presentations_show_their_mpd};
 use presentation::Presentation;
 use std::alloc::Global;
 
-/// What is made of an update before anything is changed.
+/// What is prepared for an update before anything is changed.
 #[derive(Drop)]
 pub(crate) struct Plan {
     pub(crate) change: Change,
     /// The Periods that were never seen.
     pub(crate) periods: Vec<KnownPeriod>,
-    /// The new segments by track; no track where there are none at all.
+    /// The new segments by track; empty where there are none at all.
     pub(crate) made: Vec<MadeTrack>,
 }
 
-/// What an update changes beside the tracks.
+/// What an update changes apart from the tracks.
 #[derive(Drop)]
 pub(crate) struct Change {
     published: Option<Instant>,
@@ -51,7 +51,7 @@ pub(crate) struct Change {
     resets: u64,
 }
 
-/// The presentation of the MPD that comes, if one does.
+/// The presentation of the update's MPD, if it has one.
 #[tactic(auto, using(crate::proofs::Presenting::presented_still, crate::proofs::Presenting::some_comes))]
 pub(crate) fn presented(
     alloc: Global,
@@ -83,7 +83,7 @@ pub(crate) fn force_by<'a>(
     }
 }
 
-/// Judges an update whose presentation is there, and makes what it changes.
+/// Checks an update, given its presentation, and prepares its changes.
 #[tactic(auto, using(crate::proofs::Planning::unended))]
 pub(crate) fn prepare<'a, L: Ledger>(
     alloc: Global,
@@ -107,7 +107,7 @@ pub(crate) fn prepare<'a, L: Ledger>(
     }
 }
 
-/// Makes what an update changes of which nothing is refused but addresses.
+/// Prepares the changes of an update that is valid except for URLs.
 fn plan_of<L: Ledger>(
     alloc: Global,
     next: &Next<'_>,
@@ -134,7 +134,7 @@ fn plan_of<L: Ledger>(
     })
 }
 
-/// The new segments of an update; no track where there are none at all, which takes no memory.
+/// The new segments of an update; empty where there are none at all, which allocates nothing.
 fn made_of<L: Ledger>(
     alloc: Global,
     next: &Next<'_>,
@@ -167,7 +167,7 @@ fn has_new(next: &Next<'_>) -> bool
     false
 }
 
-/// What makes them.
+/// The maker of the new segments.
 #[tactic(auto, using(crate::proofs::NewTracks::resets_most))]
 fn maker_of<'a>(alloc: Global, next: &Next<'a>) -> Maker<'a>
     requires next { IsNext next.now }
@@ -188,7 +188,8 @@ fn maker_of<'a>(alloc: Global, next: &Next<'a>) -> Maker<'a>
     }
 }
 
-/// The Periods of an update that were never seen: those behind the known ones. Where there is none no memory is taken.
+/// The Periods of an update that were never seen: those after the known ones. It allocates nothing where there are
+/// none.
 fn new_periods(alloc: Global, next: &Next<'_>) -> Result<Vec<KnownPeriod>, NoMemory>
     requires { IsNext next.now }
     ensures ok { IfOk result (λ new. let first = spec.first_new next.entry.now in
@@ -203,7 +204,7 @@ fn new_periods(alloc: Global, next: &Next<'_>) -> Result<Vec<KnownPeriod>, NoMem
     periods_from(alloc, next.force, first)
 }
 
-/// When the MPD in force was published, with the one that comes.
+/// When the MPD in force after the update was published.
 fn published_by(standing: &Standing, coming: Coming<'_>) -> Option<Instant>
     ensures { result ≡ published_by standing.now.published (mpd_of (update_of coming.entry (pos 0))) }
 {
@@ -213,7 +214,7 @@ fn published_by(standing: &Standing, coming: Coming<'_>) -> Option<Instant>
     }
 }
 
-/// How many resets there are with what comes.
+/// How many resets there are, including the update.
 fn resets_with(standing: &Standing, coming: Coming<'_>) -> u64
     requires { standing.now.resets < 10000001 }
     ensures { result ≡ spec.resets_with standing.now.resets (update_of coming.entry (pos 0)) }
@@ -224,7 +225,7 @@ fn resets_with(standing: &Standing, coming: Coming<'_>) -> u64
     standing.resets
 }
 
-/// Adds Periods that were never seen. An error leaves them as they were. No memory is taken for none.
+/// Adds Periods that were never seen. An error leaves them as they were. It allocates nothing where there are none.
 pub(crate) fn know(
     alloc: Global,
     known: &mut KnownPeriods,
@@ -241,7 +242,7 @@ pub(crate) fn know(
     known.extend(alloc, periods)
 }
 
-/// Changes what stands beside the tracks.
+/// Changes the state without the tracks.
 pub(crate) fn advance(standing: &mut Standing, newest: Option<Presentation>, change: Change)
     requires { standing.old.accepted < 10000000 }
     ensures { standing.new ≡ spec.changed standing.old newest change }
@@ -256,7 +257,8 @@ pub(crate) fn advance(standing: &mut Standing, newest: Option<Presentation>, cha
     standing.accepted += 1;
 }
 
-/// Adds what was made of the tracks, and removes from their fronts what isn't available any more. It tells how many were added.
+/// Adds the new segments to the tracks, and removes from their start what isn't available any more. Returns how many were
+/// added.
 pub(crate) fn go_on(standing: &Standing, tracks: &mut Vec<LiveTrack>, made: Vec<MadeTrack>) -> u64
     requires { spec.CanGoOn standing.now tracks.old.items made.items }
     ensures count { result ≡ sum (map length (all_kept made.items)) }

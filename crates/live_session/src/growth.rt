@@ -10,7 +10,7 @@ use crate::made::MadeTrack;
 use bridge_io::NoMemory;
 use live_judge::{LiveTrack, Standing, removed_of};
 
-/// Makes room for what was made of each track. Where nothing was made of any, no memory is taken. An error leaves the segments as
+/// Reserves room for the new segments of each track. It allocates nothing where there are none. An error leaves the segments as
 /// they were.
 #[tactic(auto, using(crate::proofs::Growing::none_changed, crate::proofs::Growing::have_room))]
 pub(crate) fn make_room(tracks: &mut Vec<LiveTrack>, made: &[MadeTrack]) -> Result<(), NoMemory>
@@ -37,7 +37,7 @@ pub(crate) fn count_made(made: &[MadeTrack]) -> u64
     count
 }
 
-/// Adds what was made of each track behind its segments.
+/// Adds the new segments of each track after its segments.
 #[tactic(auto, using(crate::proofs::Growing::none_changed, crate::proofs::Growing::all_grown))]
 pub(crate) fn grow_all(tracks: &mut Vec<LiveTrack>, made: Vec<MadeTrack>)
     requires room { spec.HaveRoom tracks.old.items made.items }
@@ -53,7 +53,7 @@ pub(crate) fn grow_all(tracks: &mut Vec<LiveTrack>, made: Vec<MadeTrack>)
     }
 }
 
-/// Removes from the front of each track what isn't available any more, unless too little is left.
+/// Removes from the start of each track what isn't available any more, unless too little is left.
 #[tactic(auto, using(crate::proofs::Growing::none_changed))]
 pub(crate) fn trim_all(standing: &Standing, tracks: &mut Vec<LiveTrack>)
     requires target { 1 ≤ standing.now.target }
@@ -67,7 +67,7 @@ pub(crate) fn trim_all(standing: &Standing, tracks: &mut Vec<LiveTrack>)
     }
 }
 
-/// Removes from the front of a track what isn't available any more, unless too little is left.
+/// Removes from the start of a track what isn't available any more, unless too little is left.
 #[tactic(auto, using(crate::proofs::Accepting::fewer))]
 fn trim(standing: &Standing, track: &mut LiveTrack)
     requires target { 1 ≤ standing.now.target }
@@ -80,7 +80,8 @@ fn trim(standing: &Standing, track: &mut LiveTrack)
     remove(track, count);
 }
 
-/// How many of its segments aren't available any more, or may go where three target durations are to be left.
+/// How many of its segments aren't available any more, or may be removed where three target durations have to be
+/// left.
 fn unavailable_of(standing: &Standing, track: &LiveTrack) -> usize
     requires { AreSideBySide track.now }
     ensures { spec.trimmed standing.now (track_shown track.now) ≡ without_front result (track_shown track.now) }
@@ -89,7 +90,7 @@ fn unavailable_of(standing: &Standing, track: &LiveTrack) -> usize
     removed_of(track, standing.force(), standing.instant, least)
 }
 
-/// Three target durations in units of the last decimal: so long is what stays at least.
+/// Three target durations in units of the last decimal: the least that is kept.
 fn three_targets(standing: &Standing) -> u128
     ensures { result ≡ 3 * standing.now.target * 10 ^ standing.now.digits }
 {

@@ -1,4 +1,4 @@
-// What is kept of a followed track, as it grows at its end and loses its front.
+// The state of a followed track, as segments are added at its end and removed from its start.
 ghost use Rattle.std.specs.Prelude.{◌≡◌, ℕ, ◌+◌, ◌<◌, ◌≤◌, ◌^◌, ◌==◌, false, length, IfOk, OnOk, option_map};
 ghost use Rattle.std.specs.Option.{option_map_or};
 ghost use Rattle.live_judge.specs.Shown.{last_of, track_shown};
@@ -12,7 +12,7 @@ use exact_time::Tick;
 use live_judge::{LastKept, LiveTrack};
 use std::alloc::Global;
 
-/// A track of which nothing was listed yet.
+/// A track without listed segments.
 pub(crate) fn empty_track(alloc: Global) -> Result<LiveTrack, NoMemory>
     ensures shown { IfOk result (λ t. track_shown t ≡ empty_track) }
     ensures paired { IfOk result AreSideBySide }
@@ -37,7 +37,7 @@ pub(crate) fn last_kept(track: &LiveTrack) -> Option<LastKept>
     Some(track.last())
 }
 
-/// Whether the last segment lies in the section of this number.
+/// Whether the last segment is in the section of this number.
 fn goes_on(track: &LiveTrack, number: u64) -> bool
     requires { AreSideBySide track.now }
     ensures { result ≡ option_map_or (λ l. l.section == number) (track_shown track.now).last false }
@@ -48,7 +48,7 @@ fn goes_on(track: &LiveTrack, number: u64) -> bool
     }
 }
 
-/// Makes room for so many more segments. An error leaves the segments as they were.
+/// Reserves room for `more` segments. An error leaves the segments as they were.
 pub(crate) fn reserve(track: &mut LiveTrack, more: usize) -> Result<(), NoMemory>
     requires { more < 2 ^ 63 }
     ensures items { track.new.items.items ≡ track.old.items.items }
@@ -60,7 +60,7 @@ pub(crate) fn reserve(track: &mut LiveTrack, more: usize) -> Result<(), NoMemory
     make_room(&mut track.facts, more)
 }
 
-/// Makes room for so many more in a ring.
+/// Reserves room for `more` members of a ring.
 fn make_room<T: Drop>(ring: &mut HeapCircularBuffer<T>, more: usize) -> Result<(), NoMemory>
     requires { more < 2 ^ 63 }
     ensures items { ring.new.items ≡ ring.old.items }
@@ -73,7 +73,7 @@ fn make_room<T: Drop>(ring: &mut HeapCircularBuffer<T>, more: usize) -> Result<(
     Ok(())
 }
 
-/// Adds a segment behind the others of a track.
+/// Adds a segment after the others of a track.
 fn push(track: &mut LiveTrack, made: Made)
     requires paired { AreSideBySide track.old }
     requires room { HasRoom 1 track.old }
@@ -86,7 +86,7 @@ fn push(track: &mut LiveTrack, made: Made)
     track.facts.push_back(made.fact);
 }
 
-/// When the section begins of a segment that is the next one of a track.
+/// When the section of a track's next segment begins.
 fn begin_with(track: &LiveTrack, made: &Made) -> Tick
     requires { AreSideBySide track.now }
     ensures { IsBegunAt track.now made.now result }
@@ -98,7 +98,7 @@ fn begin_with(track: &LiveTrack, made: &Made) -> Tick
     }
 }
 
-/// Adds segments behind the others of a track, for which there is room.
+/// Adds segments after the others of a track. There has to be room for them.
 pub(crate) fn push_all(track: &mut LiveTrack, made: Vec<Made>)
     requires paired { AreSideBySide track.old }
     requires room { HasRoom (length made.items) track.old }
@@ -110,7 +110,7 @@ pub(crate) fn push_all(track: &mut LiveTrack, made: Vec<Made>)
     }
 }
 
-/// Removes so many segments from the front of a track. One stays at least.
+/// Removes `count` segments from the start of a track. At least one is kept.
 pub(crate) fn remove(track: &mut LiveTrack, count: usize)
     requires paired { AreSideBySide track.old }
     requires some { count < length track.old.items.items }

@@ -1,4 +1,4 @@
-//! The session of a followed presentation: what is kept of it, and how it goes on.
+//! The session of a followed presentation: its state, and its updates.
 #![tactic(auto)]
 
 mod begin;

@@ -10,8 +10,8 @@ use exact_time::{Digits, Nanos};
 use iso_time::Instant;
 use presentation::Presentation;
 
-/// The target duration in seconds, by the longest duration that is printed of a presentation at an instant, and
-/// `@maxSegmentDuration`. It leaves room for segments that are half as long again.
+/// The target duration in seconds, by the longest printed duration of a presentation at a time, and
+/// `@maxSegmentDuration`: one and a half times the longer one, rounded up, and at least 1.
 pub(crate) fn target_of(
     presentation: &Presentation,
     now: Instant,

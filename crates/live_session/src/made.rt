@@ -2,12 +2,12 @@
 use hls_writer::MediaItem;
 use live_judge::Fact;
 
-/// A segment that was made, and isn't kept yet.
+/// A segment that was made, and isn't stored yet.
 #[derive(Drop)]
 pub struct Made {
-    /// What is written of it.
+    /// Its playlist item.
     pub item: MediaItem,
-    /// What is kept beside it.
+    /// What else is stored of it.
     pub fact: Fact,
 }
 

@@ -29,14 +29,14 @@ use std::alloc::Global;
 use timeline::{ListFault, Segment, Window};
 use url_parts::Part;
 
-/// What makes the new segments of a presentation that is looked at at an instant.
+/// Makes the new segments of a presentation at a time.
 #[derive(Drop)]
 pub(crate) struct Maker<'a> {
     pub(crate) alloc: Global,
     pub(crate) presentation: &'a Presentation,
     pub(crate) now: Instant,
     pub(crate) digits: Digits,
-    /// The place of its first Period. The others have the places behind it.
+    /// The index of its first Period. The others have the next ones.
     pub(crate) place: usize,
     /// How many resets there were.
     pub(crate) resets: u64,
@@ -47,14 +47,14 @@ pub(crate) struct Maker<'a> {
 #[derive(Drop)]
 struct Section<'a> {
     segments: NewSegments<'a>,
-    /// How many are listed that aren't new.
+    /// How many listed ones aren't new.
     before: u64,
     /// How many are new.
     count: u64,
 }
 
 impl<'a> Maker<'a> {
-    /// The new segments of all tracks, or the first one without an address.
+    /// The new segments of all tracks, or the fault of the first one without a URL.
     #[tactic(auto, using(crate::proofs::TrackMaking::no_track_yet))]
     pub(crate) fn make_all<L: Ledger>(
         &self,
@@ -107,7 +107,7 @@ impl<'a> Maker<'a> {
         Ok(made)
     }
 
-    /// The section in whose Period the last segment lies, or one before the first new one.
+    /// The section whose Period contains the last segment, or one before the first new one.
     fn first_section(&self, last: Option<LastKept>) -> usize
         ensures { result ≡ spec.first_section self.entry.now.place last }
     {
@@ -176,7 +176,7 @@ impl<'a> Maker<'a> {
         }
     }
 
-    /// The segments that are listed of a section's Period.
+    /// The window of the listed segments in a section.
     fn window(&self, section: usize) -> Window
         requires { section < length self.now.presentation.now.sections }
         ensures { result ≡ window_of (shown_by self.entry.now) section }
@@ -221,7 +221,7 @@ impl<'a> Maker<'a> {
         }
     }
 
-    /// A segment with what is kept beside it.
+    /// A segment with what else is stored of it.
     fn made(&self, section: usize, segment: Segment, duration: u64, map: Part) -> Made
         requires can { CanMake self.now }
         requires section { section < length self.now.presentation.now.sections }
@@ -251,7 +251,7 @@ impl<'a> Maker<'a> {
     }
 }
 
-/// When the last segment ends, where it lies in the Period of this place.
+/// When the last segment ends, where it is in the Period with this index.
 fn end_in(last: Option<LastKept>, place: usize) -> Option<Tick>
     ensures { result ≡ spec.end_in place last }
 {
@@ -259,7 +259,7 @@ fn end_in(last: Option<LastKept>, place: usize) -> Option<Tick>
     (last.place == place).then_some(last.end)
 }
 
-/// The last segment, where it lies in the section of this number.
+/// The last segment, where it is in the section of this number.
 fn behind_in(last: Option<LastKept>, number: u64) -> Option<Behind>
     ensures { result ≡ spec.behind_in number last }
 {
@@ -271,7 +271,7 @@ fn behind_in(last: Option<LastKept>, number: u64) -> Option<Behind>
     (last.section == number).then_some(behind)
 }
 
-/// When a segment begins that begins at a time of a Period.
+/// The date of a segment, by its start in its Period.
 #[tactic(auto, using(crate::proofs::Paced::dated))]
 fn date_of(availability_start: Instant, period_start: Nanos, start: Tick) -> Instant
     requires readable { IsReadable availability_start }
@@ -290,7 +290,7 @@ fn whole_nanos(time: Tick) -> i128
     (time.n * 1_000_000_000).div_euclid(i128::from(time.scale))
 }
 
-/// The fault of a segment that has no address, or of one for which memory is wanting.
+/// The fault of a segment that has no URL, or for which memory runs out.
 fn fault_of(fault: ListFault, section: usize, track: usize, segment: u64) -> PresentationFault
     ensures { result ≡ fault_at section track segment fault }
 {

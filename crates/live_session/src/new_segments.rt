@@ -15,7 +15,7 @@ use std::alloc::Global;
 use std::marker::Model;
 use timeline::{Cursor, ListFault, Listing, Runs, Segment, Window};
 
-/// The new segments of a track in a section, each made when it is asked for, with the duration that is printed of it.
+/// An iterator over the new segments of a track in a section, with their printed durations.
 ///
 /// In a contract it is the segments with their names, and the times and printed durations of those that are left.
 #[derive(Drop)]
@@ -38,8 +38,8 @@ impl<'a> Model for NewSegments<'a> {
 }
 
 impl<'a> NewSegments<'a> {
-    /// Those that are listed in a window, or of these those that end after a time. Behind the last segment of their section their
-    /// durations go on behind its; otherwise they begin with theirs.
+    /// Those that are listed in a window, or those of them that end after a time. After the last segment of their section their
+    /// durations continue its; otherwise they begin anew.
     pub(crate) fn of(
         runs: &'a Runs,
         window: &Window,
@@ -59,8 +59,8 @@ impl<'a> NewSegments<'a> {
         }
     }
 
-    /// Makes the next segment, counts it, and tells its printed duration in units of the last decimal. There is none exactly
-    /// at the end. After a refusal the same segment is the next one, and nothing is counted.
+    /// Makes the next segment, counts it, and returns its printed duration in units of the last decimal. `None` exactly at
+    /// the end. After an error the same segment is the next one, and nothing is counted.
     pub(crate) fn next<L: Ledger>(
         &mut self,
         alloc: Global,
@@ -83,7 +83,7 @@ impl<'a> NewSegments<'a> {
     }
 }
 
-/// The place of the first listed segment, or of the first one that ends after a time.
+/// The index of the first listed segment, or of the first one that ends after a time.
 #[tactic(auto, using(presentation::proofs::GoingOn::listed_later, presentation::proofs::Printing::all_listed))]
 pub(crate) fn begin_at(runs: &Runs, window: &Window, end: Option<Tick>) -> Cursor
     requires window { IsWindowOf runs.now window.now }
@@ -96,7 +96,7 @@ pub(crate) fn begin_at(runs: &Runs, window: &Window, end: Option<Tick>) -> Curso
     }
 }
 
-/// What prints the durations of the segments that are listed from a place on.
+/// The rounder for the durations of the segments that are listed from an index on.
 fn rounder_at(
     runs: &Runs,
     window: &Window,
@@ -115,7 +115,7 @@ fn rounder_at(
     }
 }
 
-/// When the first of the segments begins that are listed from a place on.
+/// The start of the first segment that is listed from an index on.
 fn first_start(runs: &Runs, from: &Cursor, window: &Window) -> Tick
     requires window { IsWindowOf runs.now window.now }
     requires reached { IsReached runs.now window.now }

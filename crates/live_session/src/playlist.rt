@@ -1,4 +1,4 @@
-// The playlist of a followed track.
+// The media playlist of a followed track.
 ghost use Rattle.std.specs.Prelude.{◌≡◌, ◌<◌, Some, length, slice_get, OnOk, OnErr};
 ghost use Rattle.bridge_io.specs.Fault.{HasCause};
 ghost use Rattle.bridge_io.specs.InOrder.{MayBegin};
@@ -17,7 +17,7 @@ use presentation::Presentation;
 use std::alloc::Global;
 use std::marker::Model;
 
-/// The playlist of a followed track, as it stands: its head, and the segments that are kept.
+/// The current media playlist of a followed track: its header values, and the kept segments.
 ///
 /// In a contract it is that playlist.
 #[derive(Drop)]
@@ -65,7 +65,7 @@ impl LivePlaylist<'_> {
         }
     }
 
-    /// Whether no segment follows: the MPD in force is static (RFC 8216, 4.3.3.4).
+    /// Whether it has EXT-X-ENDLIST: the MPD in force is static (RFC 8216, 4.3.3.4).
     pub fn ended(&self) -> bool
         ensures { result ≡ self.now.head.ended }
     {
@@ -80,9 +80,9 @@ impl LivePlaylist<'_> {
         self.track.items.len()
     }
 
-    /// The segment at a place, counted from 0.
+    /// The segment at an index, counted from 0.
     ///
-    /// Requires that the place is in range.
+    /// Requires that the index is in range.
     #[tactic(auto, using(crate::proofs::Listing::listed))]
     pub fn item(&self, place: usize) -> &MediaItem
         requires { place < length self.now.items }
@@ -105,7 +105,7 @@ impl LivePlaylist<'_> {
 
     /// Writes it to a file.
     ///
-    /// An error leaves the file as it was, or a front of the text in it. [`OutFault::WriteFault`] comes only where the store's
+    /// An error leaves the file as it was, or with a prefix of the text. [`OutFault::WriteFault`] comes only where the store's
     /// count of failed writes rose.
     pub(crate) fn write<F: Store>(
         &self,
@@ -130,7 +130,7 @@ fn item_at(track: &LiveTrack, place: usize) -> &MediaItem
     track.items.get(place).unwrap()
 }
 
-/// Whether a presentation lists all of its segments at every instant.
+/// Whether a presentation lists all of its segments at every time.
 fn is_finished(force: &Presentation, now: Instant) -> bool
     ensures { result ≡ is_finished (looked_at now force.now) }
 {

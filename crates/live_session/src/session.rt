@@ -40,10 +40,10 @@ use std::alloc::Global;
 use std::marker::Model;
 use url_parts::Base;
 
-/// A followed presentation: what accepted updates left of it.
+/// A followed presentation: its state after the accepted updates.
 ///
-/// In a contract it is that state: what stands beside the tracks; and of each track the segments that are kept, how many were
-/// listed before them, the last one, and where its section began.
+/// In a contract it is that state: the part without the tracks; and for each track the kept segments, how many were listed
+/// before them, the last one, and where its section began.
 #[derive(Drop)]
 pub struct Session {
     alloc: Global,
@@ -69,10 +69,10 @@ impl Model for Session {
 pub struct Appended(pub u64);
 
 impl Session {
-    /// The session that a first MPD begins, which is dynamic. `base` is the MPD's own URL; durations are printed with this number
-    /// of decimals.
+    /// Begins a session with a first MPD, which has to be dynamic. `base` is the MPD's own URL; durations are printed with this
+    /// number of decimals.
     ///
-    /// Requires that the MPD's values are those of an MPD of which nothing is refused, as `rules` gives them.
+    /// Requires that the MPD's values are those of a valid MPD, as `rules` returns them.
     #[tactic(auto, using(crate::proofs::Refusing::begun_next))]
     pub fn begin<L: Ledger>(
         alloc: Global,
@@ -98,7 +98,7 @@ impl Session {
         Session::begun(alloc, mpd, base, now, digits, opened, steps)
     }
 
-    /// The session that a first MPD begins of which nothing is refused but the address of a segment.
+    /// The session of a first MPD that is valid except for the URL of a segment.
     fn begun<L: Ledger>(
         alloc: Global,
         mpd: &Mpd,
@@ -126,8 +126,8 @@ impl Session {
         })
     }
 
-    /// Takes a new version of the MPD, or an instant alone. Any refusal leaves the session as it was. An instant alone wants no memory
-    /// where it brings no segments, or is refused for another reason than an address.
+    /// Applies a new version of the MPD, or a tick. Any error leaves the session as it was. A tick allocates nothing where it brings
+    /// no segments, or where it is rejected for another reason than a URL.
     ///
     /// Requires that fewer than 10,000,000 updates were accepted so far.
     pub fn refresh<L: Ledger>(
@@ -156,7 +156,7 @@ impl Session {
         }
     }
 
-    /// Takes a version of the MPD behind some that were missed: a new section begins in all tracks. Any refusal leaves the session
+    /// Applies a version of the MPD after some that were missed: a new section begins in all tracks. Any error leaves the session
     /// as it was.
     ///
     /// Requires that fewer than 10,000,000 updates were accepted so far.
@@ -178,7 +178,7 @@ impl Session {
         self.follow(Coming::Reset(mpd), now, steps)
     }
 
-    /// Takes what comes.
+    /// Applies an update.
     fn follow<L: Ledger>(
         &mut self,
         coming: Coming<'_>,
@@ -209,7 +209,7 @@ impl Session {
         Ok(Appended(go_on(&self.standing, &mut self.tracks, plan.made)))
     }
 
-    /// The playlist of a track. It takes no memory.
+    /// The playlist of a track. It allocates nothing.
     ///
     /// Requires that the track is in range.
     pub fn playlist(&self, track: usize) -> LivePlaylist<'_>
@@ -224,7 +224,7 @@ impl Session {
 
     /// Writes the playlist of a track to a file.
     ///
-    /// Requires that the track is in range. An error leaves the file as it was, or a front of the text in it.
+    /// Requires that the track is in range. An error leaves the file as it was, or with a prefix of the text.
     /// [`OutFault::WriteFault`] comes only where the store's count of failed writes rose.
     pub fn write<F: Store>(&self, track: usize, store: &mut F, name: &Name) -> Result<(), OutFault>
         requires { track < length self.now.tracks }
@@ -236,7 +236,7 @@ impl Session {
         self.playlist(track).write(self.alloc, store, name)
     }
 
-    /// The presentation of the first MPD at its instant, of which the master is written.
+    /// The presentation of the first MPD at its time, for the master playlist.
     pub fn first(&self) -> &Presentation
         ensures first { result.now ≡ self.now.common.opened }
         ensures tracks { length result.now.tracks ≡ length self.now.tracks }
@@ -245,7 +245,7 @@ impl Session {
         &self.standing.opened
     }
 
-    /// How many updates were accepted, the first MPD among them.
+    /// How many updates were accepted, including the first MPD.
     pub fn accepted(&self) -> u64
         ensures { result ≡ self.now.common.accepted }
     {

@@ -1,4 +1,4 @@
--- Where two manifests differ first.
+-- The first difference of two manifests.
 use Rattle.meaning.specs.declared.difference.Aspect.TheVariants as aspect
 use Rattle.std.specs.Prelude.{ℕ, ◌+◌, ◌==◌, ◌&&◌, ◌||◌, Bool, List, [], ◌∷◌, length, bytes_eq, if◌then◌else◌, Option, Some, None}
 use Rattle.std.specs.{Ordering.int_eq, Option.{option_eq, option_or}}
@@ -38,7 +38,7 @@ is_same_head a b = is_same_kind a.kind b.kind && option_eq bytes_eq a.language b
 abbrev pub unless : Bool → Difference → Option Difference
 unless same found = if same then None else Some found
 
--- a difference of the whole, of a track, of a track in a section
+-- a difference of the whole, of a track, or of a track in a section
 abbrev pub in_all : Aspect → Difference
 in_all what = record { what = what; section = 0; track = 0; segment = 0 }
 
@@ -48,21 +48,21 @@ in_track t what = record { what = what; section = 0; track = t; segment = 0 }
 abbrev pub in_entry : ℕ → ℕ → ℕ → Aspect → Difference
 in_entry t s k what = record { what = what; section = s; track = t; segment = k }
 
--- of a segment first the address, then the range, then the time
+-- for a segment first the URL, then the byte range, then the time
 abbrev pub segment_difference : ℕ → (Aspect → Difference) → (begin_a begin_b : Time) → (a b : Segment) → Option Difference
 segment_difference unit at begin_a begin_b a b =
     option_or (unless (bytes_eq a.part.address b.part.address) (at aspect.Address))
     (option_or (unless (option_eq is_same_range a.part.range b.part.range) (at aspect.Range))
     (unless (is_same_or_rounded unit (difference a.end begin_a) (difference b.end begin_b)) (at aspect.Time)))
 
--- segment by segment, and then their number
+-- segment by segment, then their number
 abbrev pub segments_difference : ℕ → ℕ → ℕ → ℕ → (begin_a begin_b : Time) → (xs ys : List Segment) → Option Difference
 segments_difference unit t s k begin_a begin_b [] [] = None
 segments_difference unit t s k begin_a begin_b (a ∷ xs) (b ∷ ys) =
     option_or (segment_difference unit (in_entry t s k) begin_a begin_b a b) (segments_difference unit t s (k + 1) begin_a begin_b xs ys)
 segments_difference unit t s k begin_a begin_b xs ys = Some (in_entry t s k aspect.Count)
 
--- of an entry first the initialization part
+-- for an entry first the init segment
 abbrev pub entry_difference : ℕ → ℕ → ℕ → (a b : Option Entry) → Option Difference
 entry_difference unit t s None None = None
 entry_difference unit t s (Some a) (Some b) =
@@ -76,21 +76,21 @@ entries_difference unit t s [] [] = None
 entries_difference unit t s (a ∷ xs) (b ∷ ys) = option_or (entry_difference unit t s a b) (entries_difference unit t (s + 1) xs ys)
 entries_difference unit t s xs ys = Some (in_entry t s 0 aspect.Initialization)
 
--- track by track, what each one is
+-- track by track, their kinds and languages
 abbrev pub heads_difference : ℕ → (xs ys : List Track) → Option Difference
 heads_difference t [] ys = None
 heads_difference t (a ∷ xs) [] = None
 heads_difference t (a ∷ xs) (b ∷ ys) = option_or (unless (is_same_head a b) (in_track t aspect.Track)) (heads_difference (t + 1) xs ys)
 
--- track by track, what each one has
+-- track by track, their content
 abbrev pub tracks_difference : ℕ → ℕ → (xs ys : List Track) → Option Difference
 tracks_difference unit t [] ys = None
 tracks_difference unit t (a ∷ xs) [] = None
 tracks_difference unit t (a ∷ xs) (b ∷ ys) = option_or (entries_difference unit t 0 a.entries b.entries)
     (tracks_difference unit (t + 1) xs ys)
 
--- The first place where the second neither means the same as the first nor rounds its times down: the number of
--- sections, the number of tracks, what each track is, and then by track and section what it has there.
+-- The first difference where the second neither means the same as the first nor rounds its times down: the number of
+-- sections, the number of tracks, the kind and language of each track, and then its content, by track and section.
 unfoldable pub first_difference : ℕ → Meaning → Meaning → Option Difference
 first_difference unit a b =
     option_or (unless (a.sections == b.sections) (in_all aspect.Sections))

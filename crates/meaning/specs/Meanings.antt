@@ -4,19 +4,19 @@ use Rattle.exact_time.specs.Time.{Time}
 use Rattle.bridge_io.specs.declared.media.Kind.{Kind}
 use Rattle.url_parts.specs.declared.address.Part.{Part}
 
--- a segment: the file, or the part of one, that it is, and when it begins and ends, from its section's start
+-- a segment: its file or byte range, and its start and end, relative to its section's start
 pub record Segment : Type 0 where
   pub part : Part
   pub start : Time
   pub end : Time
 
--- what a track has in a section: its initialization part, and its segments in order
+-- the content of a track in a section: its init segment, and its segments in order
 pub record Entry : Type 0 where
   pub initialization : Part
   pub segments : List Segment
 
--- A track: what it holds, its language where it is told, and what it has in each section in order. A video track's
--- language isn't told, since a playlist has no place for it.
+-- A track: its kind, its language where it is known, and its content in each section in order. A video track has no
+-- language, since a playlist can't give one.
 pub record Track : Type 0 where
   pub kind : Kind
   pub language : Option (List ℕ)

@@ -1,4 +1,4 @@
-/// What differs first of two presentations.
+/// What the first difference of two presentations is.
 #[derive(Clone, Copy, PartialEq, Eq)]
 pub enum Aspect {
     /// How many sections there are.
@@ -7,27 +7,27 @@ pub enum Aspect {
     Tracks,
     /// The kind or the language of a track.
     Track,
-    /// The initialization part of a track in a section, or that it has one there.
+    /// The init segment of a track in a section, or whether the track has content there.
     Initialization,
-    /// The address of a segment.
+    /// The URL of a segment.
     Address,
-    /// The range of bytes of a segment.
+    /// The byte range of a segment.
     Range,
-    /// When a segment ends, from where the track's first segment in the section begins.
+    /// The end of a segment, relative to the start of the track's first segment in the section.
     Time,
     /// How many segments a track has in a section.
     Count,
 }
 
-/// The first place where two presentations differ. A number that says nothing of the aspect is 0.
+/// The first difference of two presentations. A number that has no meaning for the aspect is 0.
 #[derive(Clone, Copy, PartialEq, Eq)]
 pub struct Difference {
     /// What differs.
     pub what: Aspect,
-    /// The section's place, from 0.
+    /// The section's index, from 0.
     pub section: usize,
-    /// The track's place, from 0.
+    /// The track's index, from 0.
     pub track: usize,
-    /// The segment's place in the section, from 0. Where the counts differ it is the lower one.
+    /// The segment's index in the section, from 0. Where the counts differ it is the lower one.
     pub segment: usize,
 }

@@ -9,7 +9,7 @@ pub fn a_meaning_is_the_same_as_itself()
     ensures { (a : Meaning) → SameExact a a }
 {}
 
-/// What means the same, with equal times or with times rounded down, agrees.
+/// Presentations that mean the same, with equal times or with times rounded down, agree.
 pub fn the_same_agrees()
     ensures exact { (unit : ℕ) (a b : Meaning) → SameExact a b → Agrees unit a b }
     ensures floor { (unit : ℕ) (a b : Meaning) → SameFloor unit a b → Agrees unit a b }
@@ -20,7 +20,7 @@ pub fn agreeing_has_no_difference()
     ensures { (unit : ℕ) (a b : Meaning) → Agrees unit a b ↔ (first_difference unit a b ≡ None) }
 {}
 
-/// What means the same as another, with equal times that are times, differs first from a third one where the other does.
+/// Two presentations that mean the same, with equal and valid times, have the same first difference from a third one.
 pub fn the_same_differ_alike()
     ensures exact { (a b : Meaning) → SameTimed a b → SameExact a b }
     ensures alike { (unit : ℕ) (a b c : Meaning) → SameTimed b c → first_difference unit a b ≡ first_difference unit a c }

@@ -1,8 +1,8 @@
 //! What a manifest means, by whichever standard it is written, and when two manifests mean the same.
 //!
-//! An MPD and a master with its playlists denote one kind of value: tracks with their kinds and languages, and what
-//! each has in each section, an initialization part and segments with their times. The definitions stand in `specs/`;
-//! this crate has the laws of them.
+//! An MPD and a multivariant playlist (master) with its media playlists denote one kind of value: tracks with their
+//! kinds and languages, and the content of each track in each section, that is, an init segment and segments with
+//! their times. The definitions are in `specs/`; this crate has their laws.
 #![tactic(auto)]
 
 mod difference;

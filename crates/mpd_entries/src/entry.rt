@@ -1,4 +1,4 @@
-// The times of a SegmentTimeline's segments as they are written.
+// The entries of a SegmentTimeline as they are written.
 
 /// An S element of a SegmentTimeline (ISO/IEC 23009-1, 5.3.9.6), in ticks.
 #[derive(Clone, Copy, PartialEq, Eq)]
@@ -8,7 +8,7 @@ pub struct SEntry {
     pub t: Option<u64>,
     /// How long each of its segments lasts.
     pub d: u64,
-    /// How many more segments follow the first one; where it is negative, they go on up to the next S, and in the last
-    /// S up to the Period's end.
+    /// How many more segments follow the first one. Where it is negative, they continue to the next S, or in the last
+    /// S to the Period's end.
     pub r: i64,
 }

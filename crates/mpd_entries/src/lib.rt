@@ -1,4 +1,4 @@
-//! What an MPD writes of its segments: the entries of a SegmentTimeline, and the names of a SegmentList.
+//! The segments as an MPD lists them: the entries of a SegmentTimeline, and the names of a SegmentList.
 #![tactic(auto)]
 
 mod entry;

@@ -1,4 +1,4 @@
-// Listed names that many Representations share.
+// Listed names, shared by many Representations.
 ghost use Rattle.std.specs.Prelude.{◌≡◌, IfOk};
 
 use crate::RefList;
@@ -7,8 +7,8 @@ use std::alloc::Global;
 use std::marker::Model;
 use std::rc::Rc;
 
-/// The SegmentURLs of a SegmentList (ISO/IEC 23009-1, 5.3.9.3), kept once for all Representations that have it, whatever
-/// their bases.
+/// The SegmentURLs of a SegmentList (ISO/IEC 23009-1, 5.3.9.3), stored once for all Representations that have them,
+/// whatever their bases.
 ///
 /// In a contract it is the list.
 #[derive(Drop)]
@@ -34,7 +34,7 @@ impl SharedNames {
         Ok(SharedNames { parts })
     }
 
-    /// The same list once more, without a copy of it.
+    /// The same list again, without a copy.
     pub fn share(&self) -> Result<SharedNames, NoMemory>
         ensures { IfOk result (λ names. names ≡ self.now) }
     {

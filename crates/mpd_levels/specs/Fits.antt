@@ -1,5 +1,5 @@
--- Numbers of a level's segment elements within the bounds that each attribute has: the reading with its bound gives what
--- the reading without one gives.
+-- Numbers of a level's segment elements are within the bounds of each attribute: reading with the bound gives the same as
+-- reading without it.
 use Rattle.std.specs.Prelude.{◌≡◌, ℕ, ◌^◌, List, All, codes, IfSome, Option, option_and_then}
 use Rattle.mpd_values.specs.Numbers.{number_between, signed_64_of}
 use Rattle.mpd_tree.specs.Trees.{Head, Element}
@@ -9,7 +9,7 @@ use Rattle.mpd_levels.specs.{Readings.{number_named, signed_named, child_named, 
 abbrev pub number_within : (least bound : ℕ) → List ℕ → Head → Option ℕ
 number_within least bound name head = option_and_then (number_between least bound) (value_named name head)
 
--- an attribute that isn't there fits too
+-- a missing attribute fits, too
 abbrev pub FitsBetween : (least bound : ℕ) → List ℕ → Head → Type 0
 FitsBetween least bound name head = number_within least bound name head ≡ number_named name head
 

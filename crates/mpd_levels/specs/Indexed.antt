@@ -1,4 +1,4 @@
--- Files with an index inside: a SegmentBase, taken whole from the lowest level that has one (ISO/IEC 23009-1, 5.3.9.2).
+-- Files with a `sidx`: a SegmentBase, as a whole from the lowest level that has one (ISO/IEC 23009-1, 5.3.9.2).
 use Rattle.mpd_levels.specs.declared.level.Means.TheVariants as means
 use Rattle.std.specs.Prelude.{◌==◌, ◌&&◌, Bool, true, List, codes, is_none, Option, Some, None, option_map}
 use Rattle.url_parts.specs.declared.range.Range.{Range}
@@ -24,11 +24,11 @@ index_by None levels = None
 unfoldable pub index_of : List Element → Option IndexRow
 index_of levels = index_by (used levels) levels
 
--- there is no byte before a range
+-- a range begins at byte 0
 abbrev pub begins_file : Range → Bool
 begins_file range = range.first == 0
 
--- the index isn't told, or nothing tells the initialization part and no byte stands before the index
+-- the range of the `sidx` is missing, or there is no Initialization and no byte before the `sidx`
 abbrev pub lacks_by : Option Range → Option Initialization → Bool
 lacks_by None initialization = true
 lacks_by (Some range) initialization = is_none initialization && begins_file range

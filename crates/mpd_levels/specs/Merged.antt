@@ -1,9 +1,9 @@
--- Rows one above another.
+-- Merging of rows.
 use Rattle.std.specs.Prelude.{None}
 use Rattle.mpd_profile.specs.Heads.{or_else}
 use Rattle.mpd_levels.specs.{declared.values.Attributes.Attributes, declared.values.ValueRow.ValueRow}
 
--- what the lower one says, and where it says nothing what the higher one says
+-- the values of the lower row, and where it has none, those of the higher one
 abbrev pub attributes_over : (own higher : Attributes) → Attributes
 attributes_over own higher = record {
   media = or_else own.media higher.media;
@@ -22,7 +22,7 @@ row_over own higher = record {
   urls = or_else own.urls higher.urls;
 }
 
--- a row that says nothing
+-- the empty row
 abbrev pub no_row : ValueRow
 no_row = record {
   attributes = record { media = None; initialization = None; timescale = None; duration = None; start_number = None; time_offset = None };

@@ -1,4 +1,4 @@
--- What attributes denote, without any bound on numbers; and the children of a name.
+-- Values of attributes, without bounds on numbers; and the children of a name.
 use Rattle.std.specs.Prelude.{ℕ, ℤ, List, filter, find, Option, option_and_then}
 use Rattle.url_parts.specs.{Ranges.range_of, declared.range.Range.Range}
 use Rattle.mpd_values.specs.{declared.blank.Blank.TheVariants.Space, Blanks.trimmed, Numbers.{number_of, signed_of}}

@@ -1,4 +1,4 @@
--- How the segments of a Representation are told one by one: ISO/IEC 23009-1, 5.3.9.
+-- How the segments of a Representation are addressed one by one: ISO/IEC 23009-1, 5.3.9.
 use Rattle.mpd_levels.specs.declared.level.Means.TheVariants as means
 use Rattle.std.specs.Prelude.{ℕ, pos, ◌||◌, ◌&&◌, not, Bool, true, false, List, [], ◌∷◌, map, codes, is_none, if◌then◌else◌, Option, Some}
 use Rattle.std.specs.Prelude.{None, option_map, option_and_then, unwrap_or}
@@ -11,16 +11,16 @@ use Rattle.mpd_levels.specs.declared.values.Attributes.{Attributes}
 use Rattle.mpd_levels.specs.Readings.{number_named, signed_named, range_named, child_named, children_named}
 use Rattle.mpd_levels.specs.Levels.{first_some, template_name, list_name, used, elements_used}
 
--- what elements say
+-- the merged values of elements
 pub record Values : Type 0 where
   pub attributes : Attributes
   pub initialization : Option Initialization
   pub timeline : Option (List SEntry)
   pub urls : Option (List RefPart)
 
--- ---- what an element says itself
+-- ---- the values of one element
 
--- an S: its time, where it says one, its duration, and how often it is repeated (5.3.9.6)
+-- an S: its time, where it has one, its duration, and how often it is repeated (5.3.9.6)
 abbrev pub run_of : Element → SEntry
 run_of s = record {
   t = number_named (codes "t") s.head;
@@ -39,7 +39,7 @@ timeline_in e = option_map runs_of (child_named (codes "SegmentTimeline") e)
 abbrev pub url_of : Element → RefPart
 url_of url = record { reference = value_named (codes "media") url.head; range = range_named (codes "mediaRange") url.head }
 
--- a list that isn't empty
+-- a list, where it isn't empty
 abbrev pub if_any : {X : Type 0} → List X → Option (List X)
 if_any [] = None
 if_any (x ∷ xs) = Some (x ∷ xs)
@@ -54,7 +54,7 @@ initialization_of e = record { reference = value_named (codes "sourceURL") e.hea
 abbrev pub initialization_in : Element → Option Initialization
 initialization_in e = option_map initialization_of (child_named (codes "Initialization") e)
 
--- a template's alone, and a list's alone
+-- only for a template, and only for a list
 abbrev pub of_template : {X : Type 0} → (is_list : Bool) → Option X → Option X
 of_template true value = None
 of_template false value = value
@@ -85,8 +85,8 @@ values_by is_list e = record {
   urls = urls_by is_list e;
 }
 
--- ---- what the elements of one name say together, from the lowest level on: an attribute of the lowest one that has it;
--- a timeline, an Initialization and SegmentURLs whole from the lowest one that has them
+-- ---- the merged values of the elements of one name: an attribute of the lowest level that has it; a timeline, an
+-- Initialization and SegmentURLs as a whole from the lowest level that has them
 
 abbrev pub attributes_in : (is_list : Bool) → List Element → Attributes
 attributes_in is_list elements = record {
@@ -106,11 +106,11 @@ values_in is_list elements = record {
   urls = first_some (urls_by is_list) elements;
 }
 
--- ---- the effective values of the used kind
+-- ---- the effective values of the used element
 
 pub record Segments : Type 0 where
   pub is_list : Bool
-  -- the template of the addresses; a list has none
+  -- the template of the segment URLs; a list has none
   pub media : Option (List ℕ)
   pub timescale : ℕ
   pub duration : Option ℕ
@@ -157,8 +157,7 @@ segments_by None levels = None
 unfoldable pub segments_of : List Element → Option Segments
 segments_of levels = segments_by (used levels) levels
 
--- something lacks without which no segment can be told: the initialization part, the template, the addresses of a
--- list, or every time
+-- something required for segments is missing: the init segment, the template, the URLs of a list, or all times
 abbrev pub is_incomplete : Segments → Bool
 is_incomplete s =
     (is_none s.init_template && not s.has_initialization)

@@ -1,4 +1,4 @@
--- What rows say, their timelines and lists looked up in tables.
+-- The values of rows, with timelines and lists looked up in tables.
 use Rattle.std.specs.Prelude.{◌≡◌, ℕ, true, false, List, Option, Some, None, option_map, option_and_then, slice_get}
 use Rattle.mpd_tree.specs.Trees.{Element}
 use Rattle.mpd_levels.specs.{declared.addressing.Addressing.Addressing, declared.addressing.SegmentRow.SegmentRow}
@@ -10,15 +10,15 @@ use Rattle.mpd_entries.specs.{declared.entry.SEntry.SEntry, declared.ref_part.Re
 
 -- ---- tables
 
--- all timelines that are kept, each by its place
+-- all stored timelines, by index
 abbrev pub timelines_in : Tables → List (List SEntry)
 timelines_in tables = tables.timelines
 
--- all lists of SegmentURLs that are kept, each by its place
+-- all stored lists of SegmentURLs, by index
 abbrev pub lists_in : Tables → List (List RefPart)
 lists_in tables = tables.lists
 
--- what was in a table is still at its place
+-- what was in a table still has its index
 pub record Stays {X : Type 0} (old new : List X) : Type 0 where
   pub at : (k : ℕ) (x : X) → slice_get old k ≡ Some x → slice_get new k ≡ Some x
 
@@ -26,7 +26,7 @@ pub record Grows (old new : Tables) : Type 0 where
   pub timelines : Stays (timelines_in old) (timelines_in new)
   pub lists : Stays (lists_in old) (lists_in new)
 
--- a key that stands for a member of a table, or none for none
+-- the key of a member of a table, or `None` for none
 pub record IsKey {X : Type 0} (table : List X) (key : Option ℕ) (member : Option X) : Type 0 where
   pub found : option_map (slice_get table) key ≡ option_map Some member
 
@@ -38,7 +38,7 @@ pub record Shows (tables : Tables) (row : ValueRow) (values : Values) : Type 0 w
   pub timeline : IsKey (timelines_in tables) row.timeline values.timeline
   pub urls : IsKey (lists_in tables) row.urls values.urls
 
--- what a level says, whose levels from itself on are these
+-- the values of a level; `levels` are its elements from itself on
 pub record Says (tables : Tables) (level : Level) (levels : List Element) : Type 0 where
   pub means : level.means ≡ used levels
   pub template : Shows tables level.template (values_in false (elements_used template_name levels))
@@ -53,11 +53,11 @@ values_shown tables row = record {
   urls = option_and_then (slice_get (lists_in tables)) row.urls;
 }
 
--- the segments that a row tells
+-- the segment values of a row
 unfoldable pub segments_shown : Tables → SegmentRow → Segments
 segments_shown tables row = told row.is_list (values_shown tables row.values)
 
--- the row's keys stand for what the segments have
+-- the row's keys refer to what the segments have
 pub record Tells (tables : Tables) (row : SegmentRow) (segments : Segments) : Type 0 where
   pub values : Values
   pub shows : Shows tables row.values values

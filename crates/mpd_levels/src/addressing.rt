@@ -1,4 +1,4 @@
-// How segments are told one by one.
+// Segments addressed one by one.
 ghost use Rattle.std.specs.Prelude.{◌≡◌, IfOk, option_and_then, option_map, slice_get};
 ghost use Rattle.mpd_levels.specs.Segments as spec;
 ghost use Rattle.mpd_levels.specs.Shown.{Shows, Tells, addressed, segments_shown, timelines_in};
@@ -13,8 +13,8 @@ use bridge_io::NoMemory;
 use mpd_entries::SharedNames;
 use url_parts::Range;
 
-/// The effective values of the used kind, a SegmentTemplate or a SegmentList (ISO/IEC 23009-1, 5.3.9.1). Timeline and
-/// list stand in tables.
+/// The effective values of the used element, SegmentTemplate or SegmentList (ISO/IEC 23009-1, 5.3.9.1). Timeline and
+/// list are in tables.
 #[derive(Drop)]
 pub struct SegmentRow {
     pub(crate) is_list: bool,
@@ -31,8 +31,8 @@ impl SegmentRow {
         })
     }
 
-    /// Whether something lacks without which no segment can be told: the initialization part, the template, the
-    /// addresses of a list, or every time.
+    /// Whether something required for segments is missing: the init segment, the template, the URLs of a list, or all
+    /// times.
     pub fn is_incomplete(&self) -> bool
         ensures { (tables : Tables) (segments : Segments) → Tells tables self.now segments → result ≡ spec.is_incomplete segments }
     {
@@ -49,7 +49,7 @@ impl SegmentRow {
     }
 }
 
-/// The effective values of the used kind, as a view.
+/// A view of the effective values of the used element.
 #[derive(Clone, Copy)]
 pub struct Addressing<'a> {
     tables: &'a Tables,
@@ -58,7 +58,7 @@ pub struct Addressing<'a> {
 
 #[tactic(auto, unfolding(crate::specs::Shown::segments_shown))]
 impl<'a> Addressing<'a> {
-    /// The view of a row whose timelines and lists stand in these tables.
+    /// The view of a row whose timelines and lists are in these tables.
     pub fn of(tables: &'a Tables, row: &'a SegmentRow) -> Addressing<'a>
         ensures segments { addressed result ≡ segments_shown tables.now row.now }
         ensures tables { result.tables.now ≡ tables.now }
@@ -66,14 +66,14 @@ impl<'a> Addressing<'a> {
         Addressing { tables, row }
     }
 
-    /// Whether a SegmentList tells them, and not a SegmentTemplate.
+    /// Whether it is a SegmentList, not a SegmentTemplate.
     pub fn is_list(&self) -> bool
         ensures { result ≡ (addressed self.now).is_list }
     {
         self.row.is_list
     }
 
-    /// The template of the addresses. A list has none.
+    /// The template of the segment URLs. A list has none.
     pub fn media(&self) -> Option<&'a str>
         ensures { option_map (λ text. text.now) result ≡ (addressed self.now).media }
     {
@@ -87,7 +87,7 @@ impl<'a> Addressing<'a> {
         self.row.values.attributes.timescale.unwrap_or(1)
     }
 
-    /// How long each segment is, in ticks, where that is told.
+    /// How long each segment is, in ticks, where `@duration` is present.
     pub fn duration(&self) -> Option<u64>
         ensures { result ≡ (addressed self.now).duration }
     {
@@ -108,7 +108,7 @@ impl<'a> Addressing<'a> {
         self.row.values.attributes.time_offset.unwrap_or(0)
     }
 
-    /// Which timeline of the tables it has, so equal keys have equal timelines.
+    /// The key of its timeline in the tables. Equal keys have equal timelines.
     pub fn timeline_key(&self) -> Option<usize>
         ensures { option_and_then (slice_get (timelines_in self.now.tables.now)) result ≡ (addressed self.now).timeline }
     {
@@ -122,28 +122,28 @@ impl<'a> Addressing<'a> {
         self.tables.list(self.row.values.urls?)
     }
 
-    /// The template of the initialization part's address, where the attribute tells it.
+    /// The template of the init segment's URL, where the attribute gives it.
     pub fn init_template(&self) -> Option<&'a str>
         ensures { option_map (λ text. text.now) result ≡ (addressed self.now).init_template }
     {
         text_of(&self.row.values.attributes.initialization)
     }
 
-    /// The address of the initialization part, where an Initialization element tells it and not the attribute.
+    /// The URL of the init segment, where an Initialization element gives it and not the attribute.
     pub fn init_reference(&self) -> Option<&'a str>
         ensures { option_map (λ text. text.now) result ≡ (addressed self.now).init_reference }
     {
         text_of(&self.initialization()?.reference)
     }
 
-    /// The bytes of the initialization part, where an Initialization element tells them and not the attribute.
+    /// The byte range of the init segment, where an Initialization element gives it and not the attribute.
     pub fn init_range(&self) -> Option<Range>
         ensures { result ≡ (addressed self.now).init_range }
     {
         self.initialization()?.range
     }
 
-    /// The Initialization element, unless the attribute is there.
+    /// The Initialization element, unless the attribute is present.
     fn initialization(&self) -> Option<&'a Initialization>
         ensures { option_map (λ i. i.now) result
             ≡ spec.unless_there self.now.row.now.values.attributes.initialization self.now.row.now.values.initialization }

@@ -1,4 +1,4 @@
-// Files with an index inside.
+// Files with a `sidx`.
 ghost use Rattle.std.specs.Prelude.{◌≡◌, IfOk, option_map};
 ghost use Rattle.mpd_tree.specs.Nodes.{element_of};
 ghost use Rattle.mpd_profile.specs.Heads.{or_else};
@@ -11,7 +11,7 @@ use mpd_tree::Node;
 use std::alloc::Global;
 use url_parts::Range;
 
-/// Where a file's index lies, and its initialization part: a SegmentBase (ISO/IEC 23009-1, 5.3.9.2).
+/// The byte ranges of a file's `sidx` and init segment: a SegmentBase (ISO/IEC 23009-1, 5.3.9.2).
 #[derive(Drop)]
 pub struct IndexRow {
     pub(crate) range: Option<Range>,
@@ -37,7 +37,7 @@ impl IndexRow {
         })
     }
 
-    /// The same once more, without a copy of its text.
+    /// The same again. It shares the text.
     pub fn share(&self) -> Result<IndexRow, NoMemory>
         ensures { IfOk result (λ row. row ≡ self.now) }
     {
@@ -48,14 +48,14 @@ impl IndexRow {
         })
     }
 
-    /// The bytes of the index, where they are told.
+    /// The byte range of the `sidx`, where it is given.
     pub fn range(&self) -> Option<Range>
         ensures { result ≡ self.now.range }
     {
         self.range
     }
 
-    /// Its Initialization. There is none exactly where the SegmentBase has no such element.
+    /// Its Initialization; `None` exactly where the SegmentBase has no such element.
     pub fn initialization(&self) -> Option<InitView<'_>>
         ensures { option_map initialization_shown result ≡ self.now.initialization }
     {
@@ -65,8 +65,8 @@ impl IndexRow {
         }
     }
 
-    /// Whether the index isn't told, or neither an Initialization nor bytes before the index tell the initialization
-    /// part.
+    /// Whether the range of the `sidx` is missing, or the init segment is given neither by an Initialization nor by
+    /// bytes before the `sidx`.
     pub fn lacks_index(&self) -> bool
         ensures { result ≡ spec.lacks_index self.now }
     {
@@ -80,7 +80,7 @@ impl IndexRow {
 impl<'a> InitView<'a> {
     ghost use Rattle.mpd_levels.specs.Shown.{initialization_shown};
 
-    /// Its address, where it has one of its own.
+    /// Its URL, where it has one of its own.
     pub fn reference(&self) -> Option<&'a str>
         ensures { option_map (λ text. text.now) result ≡ (initialization_shown self.now).reference }
     {
@@ -90,7 +90,7 @@ impl<'a> InitView<'a> {
         }
     }
 
-    /// Its bytes, where it tells them.
+    /// Its byte range, where it has one.
     pub fn range(&self) -> Option<Range>
         ensures { result ≡ (initialization_shown self.now).range }
     {
@@ -98,7 +98,7 @@ impl<'a> InitView<'a> {
     }
 }
 
-/// The same once more, if there is one.
+/// The same again, if there is one.
 pub(crate) fn share_index(row: &Option<IndexRow>) -> Result<Option<IndexRow>, NoMemory>
     ensures { IfOk result (λ shared. shared ≡ row.now) }
 {
@@ -108,7 +108,7 @@ pub(crate) fn share_index(row: &Option<IndexRow>) -> Result<Option<IndexRow>, No
     }
 }
 
-/// A SegmentBase, taken whole, or where there is none that of the levels above.
+/// A SegmentBase as a whole, or where there is none, that of the levels above.
 pub(crate) fn index_below(
     alloc: Global,
     base: Option<Node<'_>>,

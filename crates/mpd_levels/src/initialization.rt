@@ -29,7 +29,7 @@ impl Initialization {
         })
     }
 
-    /// The same once more.
+    /// The same again.
     pub(crate) fn share(&self) -> Result<Initialization, NoMemory>
         ensures { IfOk result (λ i. i ≡ self.now) }
     {
@@ -54,7 +54,7 @@ pub(crate) fn initialization_in(
     }
 }
 
-/// The same once more, if there is one.
+/// The same again, if there is one.
 pub(crate) fn share_initialization(
     of: &Option<Initialization>,
 ) -> Result<Option<Initialization>, NoMemory>
@@ -66,7 +66,7 @@ pub(crate) fn share_initialization(
     }
 }
 
-/// An Initialization, or where there is none the other one.
+/// An Initialization, or where there is none, the other one.
 pub(crate) fn initialization_over(
     own: Option<Initialization>,
     higher: &Option<Initialization>,

@@ -1,4 +1,4 @@
-// What the levels of an MPD say of segments: a Period, an AdaptationSet and a Representation.
+// The segment information of the levels of an MPD: Period, AdaptationSet and Representation.
 ghost use Rattle.std.specs.Prelude.{◌≡◌, ◌∷◌, [], IfOk, List, is_some, option_map};
 ghost use Rattle.mpd_tree.specs.Nodes.{element_of};
 ghost use Rattle.mpd_tree.specs.Trees.{Element};
@@ -18,7 +18,7 @@ use bridge_io::NoMemory;
 use mpd_tree::Node;
 use std::alloc::Global;
 
-/// How segments are told.
+/// How segments are addressed.
 #[derive(Clone, Copy, PartialEq, Eq)]
 pub(crate) enum Means {
     Template,
@@ -26,10 +26,10 @@ pub(crate) enum Means {
     Base,
 }
 
-/// What a Period, an AdaptationSet or a Representation says of segments, together with the levels above it.
+/// The segment information of a Period, AdaptationSet or Representation, merged with the levels above it.
 #[derive(Drop)]
 pub struct Level {
-    /// What the lowest level that has any says.
+    /// The addressing of the lowest level that has one.
     means: Option<Means>,
     template: ValueRow,
     list: ValueRow,
@@ -37,7 +37,7 @@ pub struct Level {
 }
 
 impl Level {
-    /// What stands above all Periods: nothing.
+    /// The empty level above all Periods.
     pub fn top() -> Level
         ensures { (tables : Tables) → Says tables result [] }
     {
@@ -49,8 +49,7 @@ impl Level {
         }
     }
 
-    /// What an element directly below this level says, together with this one. Its timelines and lists are added to the
-    /// tables.
+    /// Merges an element directly below this level with it. The element's timelines and lists are added to the tables.
     pub fn below(
         &self,
         alloc: Global,
@@ -77,8 +76,8 @@ impl Level {
         })
     }
 
-    /// How the segments of a Representation at this level are told one by one. There is nothing exactly where neither
-    /// a SegmentTemplate nor a SegmentList is used.
+    /// The addressing of a Representation's segments at this level, one by one; `None` exactly where neither
+    /// SegmentTemplate nor SegmentList is used.
     pub fn segments(&self) -> Result<Option<SegmentRow>, NoMemory>
         ensures { (tables : Tables) (levels : List Element) → Says tables self.now levels
             → IfOk result (λ row. IsTold tables row (segments_of levels)) }
@@ -91,7 +90,7 @@ impl Level {
         }
     }
 
-    /// Where the index of a Representation at this level lies. There is nothing exactly where no SegmentBase is used.
+    /// The `sidx` of a Representation at this level; `None` exactly where SegmentBase isn't used.
     pub fn index(&self) -> Result<Option<IndexRow>, NoMemory>
         ensures { (tables : Tables) (levels : List Element) → Says tables self.now levels → IfOk result (λ row. row ≡ index_of levels) }
     {
@@ -104,7 +103,7 @@ impl Level {
     }
 }
 
-/// How segments are told at a level that has some of the three elements.
+/// How segments are addressed at a level that has some of the three elements.
 fn means_of(
     template: Option<Node<'_>>,
     list: Option<Node<'_>>,

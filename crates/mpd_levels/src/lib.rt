@@ -1,5 +1,5 @@
-//! How the segments of a Representation are told by its levels: the Period, the AdaptationSet and the Representation
-//! itself (ISO/IEC 23009-1, 5.3.9).
+//! How the segments of a Representation are addressed, by its levels: the Period, the AdaptationSet and the
+//! Representation itself (ISO/IEC 23009-1, 5.3.9).
 #![tactic(auto)]
 
 mod addressing;

@@ -1,4 +1,4 @@
-// What attributes denote.
+// Values of attributes.
 ghost use Rattle.std.specs.Prelude.{◌≡◌, IfOk, option_map};
 ghost use Rattle.mpd_tree.specs.Nodes.{element_of};
 ghost use Rattle.mpd_profile.specs.Heads.{value_named};
@@ -13,7 +13,7 @@ use mpd_values::{Blank, read_number, trimmed};
 use std::alloc::Global;
 use url_parts::{Range, read_range};
 
-/// A number from `least` on and below `bound`.
+/// A number, at least `least` and below `bound`.
 pub(crate) fn number(node: Node<'_>, name: &str, least: u64, bound: u64) -> Option<u64>
     ensures { result ≡ number_within least bound name.now (element_of node.entry).head }
 {

@@ -1,4 +1,4 @@
-// Texts that several elements have.
+// Texts shared by several elements.
 ghost use Rattle.std.specs.Prelude.{◌≡◌, IfOk};
 ghost use Rattle.mpd_profile.specs.Heads.{or_else};
 
@@ -7,7 +7,7 @@ use std::alloc::Global;
 use std::marker::Model;
 use std::rc::Rc;
 
-/// A text that is kept once for all that have it.
+/// A text that is stored once for all that have it.
 ///
 /// In a contract it is the text's bytes.
 #[derive(Drop)]
@@ -32,7 +32,7 @@ impl SharedText {
         Ok(SharedText { text })
     }
 
-    /// The same text once more, without a copy of it.
+    /// The same text again, without a copy.
     pub fn share(&self) -> Result<SharedText, NoMemory>
         ensures { IfOk result (λ shared. shared ≡ self.now) }
     {
@@ -48,7 +48,7 @@ impl SharedText {
     }
 }
 
-/// The same text once more, where there is one.
+/// The same text again, where there is one.
 pub fn share_text(text: &Option<SharedText>) -> Result<Option<SharedText>, NoMemory>
     ensures { IfOk result (λ shared. shared ≡ text.now) }
 {
@@ -58,7 +58,7 @@ pub fn share_text(text: &Option<SharedText>) -> Result<Option<SharedText>, NoMem
     }
 }
 
-/// A text, or where there is none the other one.
+/// A text, or where there is none, the other one.
 pub(crate) fn text_over(
     own: Option<SharedText>,
     higher: &Option<SharedText>,

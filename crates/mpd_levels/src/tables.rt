@@ -1,4 +1,4 @@
-// What is kept once for all Representations.
+// What is stored once for all Representations.
 ghost use Rattle.std.specs.Prelude.{◌≡◌, [], IfOk, Some, codes, map, option_map, slice_get};
 ghost use Rattle.mpd_tree.specs.Nodes.{element_of};
 ghost use Rattle.mpd_levels.specs.Fits.{FitsRun, FitsTimeline};
@@ -17,7 +17,7 @@ use std::alloc::Global;
 
 /// The timelines and the lists of SegmentURLs of an MPD, each kept once for all Representations that have it.
 ///
-/// What is added stays at its place.
+/// What is added keeps its index.
 #[derive(Drop)]
 pub struct Tables {
     pub(crate) timelines: Sequence<SList>,
@@ -25,7 +25,7 @@ pub struct Tables {
 }
 
 impl Tables {
-    /// Tables with nothing in them. They take no memory.
+    /// Empty tables. They allocate nothing.
     pub fn new(alloc: Global) -> Tables
         ensures timelines { spec.timelines_in result ≡ [] }
         ensures lists { spec.lists_in result ≡ [] }
@@ -36,7 +36,7 @@ impl Tables {
         }
     }
 
-    /// The S elements of the timelines, each at the place that is its key.
+    /// The S elements of the timelines; the index of each is its key.
     pub fn timelines(&self) -> &[SList]
         ensures { result.now ≡ spec.timelines_in self.now }
     {
@@ -50,7 +50,7 @@ impl Tables {
         self.lists.get(key)
     }
 
-    /// Keeps a timeline, and gives its key.
+    /// Stores a timeline, and returns its key.
     pub(crate) fn keep_timeline(&mut self, timeline: SList) -> Result<usize, NoMemory>
         ensures key { IfOk result (λ key. slice_get (spec.timelines_in self.new) key ≡ Some timeline) }
         ensures lists { spec.lists_in self.new ≡ spec.lists_in self.old }
@@ -61,7 +61,7 @@ impl Tables {
         Ok(key)
     }
 
-    /// Keeps a list, and gives its key.
+    /// Stores a list, and returns its key.
     pub(crate) fn keep_list(&mut self, list: SharedNames) -> Result<usize, NoMemory>
         ensures key { IfOk result (λ key. slice_get (spec.lists_in self.new) key ≡ Some list) }
         ensures timelines { spec.timelines_in self.new ≡ spec.timelines_in self.old }
@@ -105,7 +105,7 @@ fn read_repeat(s: Node<'_>) -> Option<i64>
     read_signed(value_named(s, "r")?)
 }
 
-/// The SegmentURLs of an element. There is none exactly where it has none.
+/// The SegmentURLs of an element; `None` exactly where it has none.
 pub(crate) fn read_urls(alloc: Global, list: Node<'_>) -> Result<Option<RefList>, NoMemory>
     ensures { IfOk result (λ urls. urls ≡ urls_in (element_of list.entry)) }
 {

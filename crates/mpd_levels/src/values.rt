@@ -1,4 +1,4 @@
-// What a SegmentTemplate or a SegmentList says, and those above it.
+// The values of a SegmentTemplate or SegmentList, merged with those above it.
 ghost use Rattle.std.specs.Prelude.{◌≡◌, IfOk, IfSome, List, codes, option_map};
 ghost use Rattle.std.specs.List.{cons_option};
 ghost use Rattle.mpd_tree.specs.Nodes.{element_of};
@@ -19,7 +19,7 @@ use mpd_entries::SharedNames;
 use mpd_tree::Node;
 use std::alloc::Global;
 
-/// Attributes (ISO/IEC 23009-1, 5.3.9.2 to 5.3.9.4). A SegmentList has the numbers alone.
+/// Attributes (ISO/IEC 23009-1, 5.3.9.2 to 5.3.9.4). A SegmentList has only the numbers.
 #[derive(Drop)]
 pub(crate) struct Attributes {
     pub(crate) media: Option<SharedText>,
@@ -30,7 +30,7 @@ pub(crate) struct Attributes {
     pub(crate) time_offset: Option<u64>,
 }
 
-/// What elements of one kind say together. Timeline and list stand for those of the tables.
+/// The merged values of elements of one kind. Timeline and list are keys of the tables.
 #[derive(Drop)]
 pub(crate) struct ValueRow {
     pub(crate) attributes: Attributes,
@@ -65,7 +65,7 @@ impl Attributes {
         })
     }
 
-    /// What a lower level says, and where it says nothing what the levels above say.
+    /// The values of a lower level, and where it has none, those of the levels above.
     fn over(self, higher: &Attributes) -> Result<Attributes, NoMemory>
         ensures { IfOk result (λ attributes. attributes ≡ attributes_over self higher.now) }
     {
@@ -106,7 +106,7 @@ fn timescale(node: Node<'_>) -> Option<u32>
 }
 
 impl ValueRow {
-    /// Nothing is said.
+    /// The empty row.
     pub(crate) fn nothing() -> ValueRow
         ensures { result ≡ no_row }
     {
@@ -118,7 +118,7 @@ impl ValueRow {
         }
     }
 
-    /// What an element and those above it say.
+    /// The merged values of an element and those above it.
     pub(crate) fn below(
         &self,
         alloc: Global,
@@ -172,7 +172,7 @@ impl ValueRow {
         })
     }
 
-    /// The same once more.
+    /// The same again.
     pub(crate) fn share(&self) -> Result<ValueRow, NoMemory>
         ensures { IfOk result (λ row. row ≡ self.now) }
     {
@@ -180,7 +180,7 @@ impl ValueRow {
     }
 }
 
-/// Keeps the timeline of an element, and gives its key.
+/// Stores the timeline of an element, and returns its key.
 fn keep_timeline(
     alloc: Global,
     tables: &mut Tables,
@@ -197,7 +197,7 @@ fn keep_timeline(
     }
 }
 
-/// Keeps the SegmentURLs of a SegmentList, where it has any, and gives their key.
+/// Stores the SegmentURLs of a SegmentList, where it has any, and returns their key.
 fn keep_urls(
     alloc: Global,
     tables: &mut Tables,

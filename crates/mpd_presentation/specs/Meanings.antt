@@ -1,5 +1,5 @@
--- What an MPD means at its URL and an instant (ISO/IEC 23009-1, 5.3), without any limit, and without bounds on numbers
--- and on the length of addresses.
+-- What an MPD means at its URL and a time (ISO/IEC 23009-1, 5.3), without any limit, and without bounds on numbers and on
+-- the length of URLs.
 use Rattle.timeline.specs.declared.names.Names.TheVariants as names
 use Rattle.std.specs.Prelude.{ℕ, ℤ, ◌-◌, ◌^◌, ◌&&◌, nat_lt, max, Bool, List, [], map, length, Option, Some, None, option_and_then}
 use Rattle.std.specs.{Prelude.{unwrap_or, if◌then◌else◌}, List.list_all, Option.option_map_or, Result.result_ok}
@@ -17,7 +17,7 @@ use Rattle.mpd_presentation.specs.Told.{end_of, following_of, init_reference, na
 
 -- ---- what an MPD means
 
--- a timeline wins over a duration (5.3.9.2)
+-- a timeline takes precedence over a duration (5.3.9.2)
 abbrev pub timeline_by : Option (List SEntry) → Segments → End → Names → SegmentTimeline
 timeline_by (Some timeline) s end names = timeline_from (scale_of s) s.time_offset names
     (expansion_of_timeline (scale_of s) end timeline)
@@ -30,14 +30,14 @@ content_with d s end base = record {
   runs = timeline_by s.timeline s end (names_of d s (unwrap_or s.media []) base);
 }
 
--- what a Representation has in its Period, which ends so
+-- the content of a Representation in its Period, which has this end
 unfoldable pub content_meant : (url : List ℕ) → End → Description → Segments → Content
 content_meant url end d s = content_with d s end (deepest url d.bases)
 
 abbrev pub content_of_row : (url : List ℕ) → End → Row → Content
 content_of_row url end row = content_meant url end row.description (segments_in row)
 
--- a followed MPD is looked at at an instant
+-- the window of a Period; that of a dynamic MPD depends on the time
 abbrev pub window_in : Facts → (now : Option ℤ) → Period → Window
 window_in facts now period = option_map_or (λ f. window_at f period.bounds.start) (following_of facts now) whole_window
 
@@ -52,7 +52,7 @@ head_of_row row = head_with row.description.kind row.description.language
 unfoldable pub mpd_meaning : TypedMpd (Option Segments) → (url : List ℕ) → (now : Option ℤ) → Meaning
 mpd_meaning mpd url now = meaning_with (map head_of_row (in_order (first_rows mpd.periods))) (map (row_meant url mpd.facts now) mpd.periods)
 
--- its segments can be counted and numbered: no time is counted in ticks of which there are none in a second
+-- its segments can be timed and numbered: the timescale isn't 0
 abbrev pub is_counted : Segments → Bool
 is_counted s = nat_lt 0 s.timescale && nat_lt s.start_number (2 ^ 63)
 
@@ -68,7 +68,7 @@ are_counted mpd = list_all period_counted mpd.periods
 abbrev pub meaning_if_counted : TypedMpd (Option Segments) → (url : List ℕ) → (now : Option ℤ) → Option Meaning
 meaning_if_counted mpd url now = if are_counted mpd then Some (mpd_meaning mpd url now) else None
 
--- What the text of an MPD means at its URL and an instant. What isn't the text of a tree means nothing, nor does an MPD with a
+-- What the text of an MPD means at its URL and a time. A text that isn't that of a tree has no meaning, nor has an MPD with a
 -- timescale of 0 or a start number of 2^63 or more.
 unfoldable pub dash_meaning : (bytes url : List ℕ) → (now : Option ℤ) → Option Meaning
 dash_meaning bytes url now = option_and_then (λ tree. meaning_if_counted (dash_values tree) url now) (result_ok (reading_of bytes))

@@ -6,7 +6,7 @@ use Rattle.mpd_tree.specs.Trees.{Element}
 use Rattle.presentation.specs.Presented.{Presented, is_finished}
 use Rattle.mpd_presentation.specs.Told.{presented_of}
 
--- from a static MPD, of which no rule refuses anything
+-- from a valid static MPD
 pub record CameFromStaticMpd (p : Presented) : Type 0 where
   pub tree : Element
   pub mpd : TypedMpd (Option Segments)
@@ -16,6 +16,6 @@ pub record CameFromStaticMpd (p : Presented) : Type 0 where
   pub static : mpd.facts.live ≡ false
   pub presented : presented_of mpd url now ≡ Ok p
 
--- it is finished
+-- it is VOD
 abbrev pub StaticAreFinished : Type 0
 StaticAreFinished = (p : Presented) → CameFromStaticMpd p → is_finished p ≡ true

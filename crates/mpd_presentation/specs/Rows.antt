@@ -1,4 +1,4 @@
--- The Representations of a Period as they are presented: ISO/IEC 23009-1, 5.3.2 and 5.3.5.
+-- The Representations of a Period as tracks: ISO/IEC 23009-1, 5.3.2 and 5.3.5.
 use Rattle.std.specs.Prelude.{ℕ, ◌-◌, ◌&&◌, Bool, true, false, List, [], ◌∷◌, ◌++◌, map, flat_map, Option, option_map, unwrap_or}
 use Rattle.mpd_values.specs.Codecs.{codes_of}
 use Rattle.mpd_levels.specs.{declared.addressing.SegmentRow.SegmentRow, Segments.Segments}
@@ -9,7 +9,7 @@ use Rattle.mpd_rules.specs.Views.{period_in, track_in, periods_left, tracks_left
 use Rattle.presentation.specs.{Order.{by_kind, is_of, same_language}, declared.track.Track.Track, declared.track.Section.Section}
 use Rattle.presentation.specs.Ratios.{rate_of}
 
--- a Representation and a Period, with how segments are told
+-- a Representation and a Period, with the segment values
 abbrev pub Row : Type 0
 Row = TrackRow (Option Segments)
 
@@ -18,7 +18,7 @@ Period = PeriodRow (Option Segments)
 
 -- ---- the order: video, then audio, then text, each in document order
 
--- however their segments are told
+-- however their segments are addressed
 abbrev pub in_order : {X : Type 0} → List (TrackRow X) → List (TrackRow X)
 in_order rows = by_kind (λ (row : TrackRow _). row.description.kind) rows
 
@@ -35,7 +35,7 @@ are_alike (one ∷ ones) (other ∷ others) = is_alike one other && are_alike on
 
 -- ---- tracks and sections
 
--- the codes, joined by `,`
+-- the codecs, joined by `,`
 abbrev pub with_commas : List (List ℕ) → List ℕ
 with_commas [] = []
 with_commas (code ∷ codes) = code ++ flat_map (λ later. 44 ∷ later) codes

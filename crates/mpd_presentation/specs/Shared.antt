@@ -1,4 +1,4 @@
--- What is laid out once, by the tables of an MPD.
+-- The timelines that are laid out once, by the tables of an MPD.
 use Rattle.std.specs.Prelude.{List, All}
 use Rattle.meaning.specs.Same.{Pairwise}
 use Rattle.timeline.specs.MediaTimelines.{LaysOut}

@@ -1,4 +1,4 @@
--- What a presentation an MPD gives, or the first refusal: ISO/IEC 23009-1, 5.3.
+-- The presentation of an MPD, or the first error: ISO/IEC 23009-1, 5.3.
 use Rattle.template_ids.specs.declared.fault.TemplateFault.TheVariants as template
 use Rattle.url_parts.specs.declared.fault.UrlFault.TheVariants as url
 use Rattle.timeline.specs.declared.fault.TimeFault.TheVariants as times
@@ -23,10 +23,10 @@ use Rattle.presentation.specs.{Presented.{Presented, Following}, Counting.unless
 use Rattle.mpd_presentation.specs.declared.told.PeriodContent.{PeriodContent}
 use Rattle.mpd_presentation.specs.{Rows.{Row, Period, in_order, are_alike, track_of, section_of, first_rows}, Scales.scale_of}
 
--- ---- what a Representation has in its Period: Template of `media`, then of `initialization`, then Url of the BaseURLs,
--- then of the initialization part, then Timeline, each at the Representation's place
+-- ---- the content of a Representation in its Period: the faults are Template of `media`, then of `initialization`, then
+-- Url of the BaseURLs, then of the init segment, then Timeline, each at the Representation's position
 
--- how the segments are told where nothing tells them, which no rule of an MPD lets through
+-- a placeholder for missing segment values, which the rules of an MPD reject
 abbrev pub untold : Segments
 untold = record {
   is_list = false;
@@ -55,7 +55,7 @@ at_url place fault = Url fault (Standing place)
 abbrev pub at_times : Place → TimeFault → PresentationFault
 at_times place fault = Timeline fault place
 
--- the same, where want of memory isn't told of the Representation
+-- the same, where out of memory isn't a fault of the Representation
 abbrev pub template_told : Place → TemplateFault → PresentationFault
 template_told place template.Memory = Memory
 template_told place fault = Template fault place
@@ -68,11 +68,11 @@ abbrev pub times_told : Place → TimeFault → PresentationFault
 times_told place times.Memory = Memory
 times_told place fault = Timeline fault place
 
--- the template of the segments' addresses; a list has none
+-- the template of the segment URLs; a list has none
 abbrev pub media_of : Place → Segments → Result (List ℕ) PresentationFault
 media_of place s = told_as (at_template place) (template_of (unwrap_or s.media []))
 
--- an initialization part has neither number nor time, which is told after all faults of the template itself
+-- the template of an init segment has neither number nor time; this is checked after all faults of the template itself
 abbrev pub unless_segments : List ℕ → Result (List ℕ) TemplateFault
 unless_segments template = if uses_number template || uses_time template then Err Unknown else Ok template
 
@@ -86,14 +86,14 @@ some_init (Some text) = and_then (init_template_of text) (λ template. Ok (Some 
 abbrev pub init_of : Place → Segments → Result (Option (List ℕ)) PresentationFault
 init_of place s = told_as (at_template place) (some_init s.init_template)
 
--- the BaseURLs one after another, from the MPD's URL on
+-- the BaseURLs resolved one after another, from the MPD's URL on
 abbrev pub base_of : (url : List ℕ) → Description → Result (List ℕ) PresentationFault
 base_of url d = told_as (at_url d.place) (chain url d.bases)
 
 abbrev pub init_name : Description → List ℕ → List ℕ
 init_name d template = named template (record { id = d.id; bandwidth = d.bandwidth; number = 0; time = 0 })
 
--- the reference of the initialization part: by the template, otherwise as the Initialization element has it
+-- the reference of the init segment: by the template, otherwise that of the Initialization element
 abbrev pub init_reference : Description → Segments → Option (List ℕ) → Option (List ℕ)
 init_reference d s None = s.init_reference
 init_reference d s (Some template) = Some (init_name d template)
@@ -108,7 +108,7 @@ abbrev pub names_of : Description → Segments → (media base : List ℕ) → N
 names_of d s media base = if s.is_list then names.Shared (unwrap_or s.urls []) base
     else names.Template media d.id d.bandwidth base
 
--- a timeline wins over a duration
+-- a timeline takes precedence over a duration
 abbrev pub timeline_by : Option (List SEntry) → Segments → (live : Bool) → End → Names → Result SegmentTimeline TimeFault
 timeline_by (Some timeline) s live end names = timeline_of_entries timeline end live (scale_of s) names
 timeline_by None s live end names = timeline_of_duration (unwrap_or s.duration 0) end live (scale_of s) names
@@ -141,14 +141,14 @@ end_of period = unwrap_or (option_map (λ end. At (end - period.bounds.start)) p
 abbrev pub told_in_order : List PeriodContent → List PeriodContent
 told_in_order tolds = by_kind (λ (told : PeriodContent). told.kind) tolds
 
--- refusals are told in document order, and what is told stands in the order of the tracks
+-- errors come in document order, and contents in the order of the tracks
 abbrev pub period_told : (url : List ℕ) → (live : Bool) → Period → Result (List PeriodContent) PresentationFault
 period_told url live period = and_then (gathered (one_told url live (end_of period)) period.tracks) (λ tolds. Ok (told_in_order tolds))
 
 abbrev pub all_told : (url : List ℕ) → (live : Bool) → List Period → Result (List PeriodContent) PresentationFault
 all_told url live periods = gathered (period_told url live) periods
 
--- ---- what is judged before: an instant where one is needed, the limits, and each Period's tracks
+-- ---- checked before: a time where one is needed, the limits, and each Period's tracks
 
 abbrev pub needs_now : (live has_now : Bool) → List PresentationFault
 needs_now live has_now = if live && not has_now then NeedsNow ∷ [] else []
@@ -172,7 +172,7 @@ told_before live has_now periods = needs_now live has_now ++ (over_told periods 
 
 -- ---- a presentation
 
--- a dynamic MPD is followed; no rule lets one through that doesn't say when it begins to be available
+-- a dynamic MPD is followed; the rules reject one without availabilityStartTime
 abbrev pub following_of : Facts → (now : Option ℤ) → Option Following
 following_of facts now = if facts.live
     then Some (record {
@@ -192,11 +192,11 @@ presented_with mpd now tolds = record {
   places = map (λ (told : PeriodContent). told.place) tolds;
 }
 
--- what Representations have, or the first refusal of one of them
+-- the presentation of all Representations, or the first error of one of them
 abbrev pub presented_if_told : TypedMpd (Option Segments) → (url : List ℕ) → (now : Option ℤ) → Result Presented PresentationFault
 presented_if_told mpd url now = and_then (all_told url mpd.facts.live mpd.periods) (λ tolds. Ok (presented_with mpd now tolds))
 
--- the presentation of an MPD at a URL, looked at at an instant where it is followed, or the first refusal
+-- the presentation of an MPD at a URL, at a time where it is followed, or the first error
 unfoldable pub presented_of : TypedMpd (Option Segments) → (url : List ℕ) → (now : Option ℤ) → Result Presented PresentationFault
 presented_of mpd url now =
     and_then (unless_any {X = Unit {0}} (told_before mpd.facts.live (is_some now) mpd.periods) tt) (λ _. presented_if_told mpd url now)

@@ -1,4 +1,4 @@
-// What is judged of an MPD before its Representations are told.
+// Checks of an MPD before its Representations.
 ghost use Rattle.std.specs.Prelude.{◌≡◌, ◌&&◌, not, length, map, nat_lt};
 ghost use Rattle.bridge_io.specs.Answer.{Gives};
 ghost use Rattle.mpd_rules.specs.Views.{segments_mpd};
@@ -11,13 +11,14 @@ use mpd_rules::{Mpd, PeriodView, PeriodWalk, RepView, RepWalk, SegmentRow};
 use presentation::PresentationFault;
 use std::alloc::Global;
 
-/// How many sections there may be.
+/// The most sections.
 const SECTION_LIMIT: u64 = 1000;
 
-/// How many tracks there may be.
+/// The most tracks.
 const TRACK_LIMIT: u64 = 200;
 
-/// Whether an instant is given where one is needed, no limit is passed, and each Period has the tracks of the first one.
+/// Checks that a current time is given where it is needed, no limit is exceeded, and each Period has the tracks of the
+/// first one.
 pub(crate) fn check(alloc: Global, mpd: &Mpd, has_now: bool) -> Result<(), PresentationFault>
     ensures { Gives (λ done. done) refusal result
         (unless_any (spec.told_before (segments_mpd mpd.now).facts.live has_now (segments_mpd mpd.now).periods) tt) }
@@ -37,7 +38,7 @@ fn needs_now(mpd: &Mpd, has_now: bool) -> bool
     mpd.live() && !has_now
 }
 
-/// Whether there are more Periods or tracks than there may be.
+/// Whether there are too many Periods or tracks.
 fn is_over(mpd: &Mpd) -> bool
     ensures { result ≡ spec.is_over (segments_mpd mpd.now).periods }
 {
@@ -74,7 +75,7 @@ fn check_period(
     Err(PresentationFault::PeriodsDiffer(period.place()))
 }
 
-/// Whether there are more Periods than there may be sections.
+/// Whether there are more Periods than the limit of sections.
 fn has_more_periods(mut periods: PeriodWalk<'_, SegmentRow>) -> bool
     ensures { result ≡ nat_lt 1000 (length (all_left periods.entry)) }
 {
@@ -86,7 +87,7 @@ fn has_more_periods(mut periods: PeriodWalk<'_, SegmentRow>) -> bool
     periods.next().is_some()
 }
 
-/// Whether the first Period has more Representations than there may be tracks.
+/// Whether the first Period has more Representations than the limit of tracks.
 fn has_more_tracks(mut periods: PeriodWalk<'_, SegmentRow>) -> bool
     ensures { result ≡ nat_lt 200 (length (first_rows (all_left periods.entry))) }
 {

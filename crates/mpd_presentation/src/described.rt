@@ -1,4 +1,4 @@
-// Tracks and sections of an MPD, however the segments of its Representations are told.
+// Tracks and sections of an MPD, however the segments of its Representations are addressed.
 ghost use Rattle.std.specs.Prelude.{◌≡◌, IfOk, map, option_map, codes};
 ghost use Rattle.mpd_rules.specs.Views.{period_in, track_in};
 ghost use Rattle.mpd_values.specs.Codecs.{codes_of};
@@ -21,7 +21,7 @@ pub fn tracks_in<X>(alloc: Global, period: &TypedPeriod<'_, X>) -> Result<TrackL
     tracks_seen(alloc, &views)
 }
 
-/// The tracks that Representations in order are.
+/// The tracks of Representations in order.
 pub(crate) fn tracks_of(alloc: Global, rows: &[RepView<'_>]) -> Result<TrackList, NoMemory>
     ensures { IfOk result (λ tracks. tracks ≡ map spec.track_of (map spec.row_of rows.now)) }
 {
@@ -78,7 +78,7 @@ fn codes_in(alloc: Global, codecs: Option<&str>) -> Result<Option<Text>, NoMemor
     }
 }
 
-/// Codes, joined by `,` without the spaces around them.
+/// Codecs, joined by `,` without the spaces around them.
 fn joined_codes(alloc: Global, codecs: &str) -> Result<Text, NoMemory>
     ensures { IfOk result (λ codes. codes ≡ spec.joined_codes codecs.now) }
 {
@@ -94,7 +94,7 @@ fn joined_codes(alloc: Global, codecs: &str) -> Result<Text, NoMemory>
     Ok(Text::from(joined))
 }
 
-/// The sections that Periods are.
+/// The sections of Periods.
 pub(crate) fn sections_of(
     alloc: Global,
     periods: PeriodWalk<'_, SegmentRow>,
@@ -108,7 +108,7 @@ pub(crate) fn sections_of(
     Ok(sections)
 }
 
-/// The section that a Period is (ISO/IEC 23009-1, 5.3.2).
+/// The section of a Period (ISO/IEC 23009-1, 5.3.2).
 pub fn section_in<X>(alloc: Global, period: &TypedPeriod<'_, X>) -> Result<Section, NoMemory>
     ensures { IfOk result (λ section. section ≡ spec.section_of (period_in period.now)) }
 {

@@ -1,4 +1,4 @@
-// What Representations before had.
+// Caching across Representations.
 ghost use Rattle.std.specs.Prelude.{◌≡◌, Ok};
 ghost use Rattle.bridge_io.specs.Answer.{Gives};
 ghost use Rattle.mpd_rules.specs.Views.{bases_left};
@@ -12,17 +12,17 @@ use std::mem;
 use template_ids::{Template, TemplateFault};
 use url_parts::{Address, Base, UrlFault};
 
-/// What the Representation before had. What is the same in the next one is worked out and kept once.
+/// The results for the previous Representation, reused where the next one has the same.
 #[derive(Drop)]
 pub(crate) struct Former {
     media: Option<Template>,
     init: Option<Template>,
-    /// What its BaseURLs gave, from the MPD down.
+    /// The results of its BaseURLs, from the MPD down.
     steps: Vec<Step>,
     initialization: Option<Resolved>,
 }
 
-/// A base that a BaseURL gave.
+/// The base that a BaseURL gave.
 #[derive(Drop)]
 struct Step {
     from: Base,
@@ -31,7 +31,7 @@ struct Step {
     ghost gives: { resolve from reference ≡ Ok to },
 }
 
-/// An address that a reference gave.
+/// The URL that a reference gave.
 #[derive(Drop)]
 struct Resolved {
     from: Base,
@@ -41,7 +41,7 @@ struct Resolved {
 }
 
 impl Former {
-    /// There was none.
+    /// The empty cache.
     pub(crate) fn none(alloc: Global) -> Former {
         Former {
             media: None,
@@ -51,21 +51,21 @@ impl Former {
         }
     }
 
-    /// The template of the segments' addresses.
+    /// The template of the segment URLs.
     pub(crate) fn media(&mut self, alloc: Global, text: &str) -> Result<Template, TemplateFault>
         ensures { Gives (λ template. template) template_refusal result (template_of text.now) }
     {
         template_by(alloc, text, &mut self.media)
     }
 
-    /// The template of the initialization part's address.
+    /// The template of the init segment's URL.
     pub(crate) fn init(&mut self, alloc: Global, text: &str) -> Result<Template, TemplateFault>
         ensures { Gives (λ template. template) template_refusal result (template_of text.now) }
     {
         template_by(alloc, text, &mut self.init)
     }
 
-    /// The base that references give one after another.
+    /// The base that references give, each resolved against the one before.
     pub(crate) fn base(
         &mut self,
         alloc: Global,
@@ -89,7 +89,7 @@ impl Former {
         Ok(())
     }
 
-    /// The address of the initialization part, by its reference against a base.
+    /// The URL of the init segment, by its reference against a base.
     pub(crate) fn address(
         &mut self,
         alloc: Global,
@@ -155,7 +155,7 @@ impl Resolved {
     }
 }
 
-/// The template that a text is, which is kept once where it is the former one.
+/// A text as a template, shared with the previous one where it is the same.
 fn template_by(
     alloc: Global,
     text: &str,

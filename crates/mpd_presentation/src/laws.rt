@@ -8,20 +8,20 @@ ghost use Rattle.mpd_presentation.specs.PresentedLaws.{PresentedAreInPace, Secti
 
 use timeline::closed_ends;
 
-/// The presentation of an MPD means what the MPD means, and that is what its text means.
+/// The presentation of an MPD means what the MPD means, which is what its text means.
 pub fn presentations_mean_their_mpd()
     ensures mpd { PresentedAreMeant }
     ensures text { TextsAreMeant }
 {}
 
-/// What came from a static MPD is finished.
+/// The presentation of a static MPD is VOD.
 pub fn static_mpds_are_finished()
     ensures { StaticAreFinished }
 {}
 
-/// What is so of each presentation of an MPD, static or dynamic. It has at most 1,000 sections, which are the MPD's Periods,
-/// and 200 tracks. It is followed where the MPD is dynamic. Where the segments up to open ends break no limit, at the
-/// presentation's instant or another one, the ends of those that are listed don't fall, and lie near one another.
+/// What holds for each presentation of an MPD, static or dynamic. It has at most 1,000 sections, which are the MPD's
+/// Periods, and 200 tracks. It is followed where the MPD is dynamic. Where the segments up to open ends break no limit, at
+/// the presentation's time or another one, the ends of those that are listed don't fall, and are near one another.
 pub fn presentations_show_their_mpd()
     ensures few { PresentedAreFew }
     ensures followed { PresentedAreFollowed }
@@ -30,8 +30,8 @@ pub fn presentations_show_their_mpd()
     ensures always { AreAlwaysInPace }
 {}
 
-/// The segments of a presentation that came from a static MPD and was verified can be gone over in one way: those of each
-/// track in each section go on to an end, and each listed one has an address.
+/// The segments of a verified presentation of a static MPD can be listed: those of each track in each section have an
+/// end, and each listed one has a URL.
 pub fn verified_mpds_can_be_listed()
     ensures { VerifiedAreListable }
 {

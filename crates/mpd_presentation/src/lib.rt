@@ -1,4 +1,4 @@
-//! The presentation of an MPD, or its first refusal, and what an MPD means.
+//! The presentation of an MPD, or its first error, and what an MPD means.
 #![tactic(auto)]
 
 mod checks;

@@ -19,7 +19,7 @@ pub(crate) fn rows_in_order<'a>(
     views_in_order(alloc, period)
 }
 
-/// The same, however their segments are told.
+/// The same, however their segments are addressed.
 pub(crate) fn views_in_order<'a, X>(
     alloc: Global,
     period: &TypedPeriod<'a, X>,
@@ -33,7 +33,7 @@ pub(crate) fn views_in_order<'a, X>(
     Ok(views)
 }
 
-/// Adds the Representations of a kind behind the others.
+/// Adds the Representations of a kind after the others.
 fn add_kind<'a, X>(
     views: &mut Vec<TrackView<'a, X>>,
     walk: RepWalk<'a, X>,

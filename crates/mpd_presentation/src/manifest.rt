@@ -24,11 +24,11 @@ use url_parts::Base;
 
 /// The presentation of an MPD, which is followed where it is dynamic. `base` is the MPD's own URL.
 ///
-/// The faults are tried in this order: NeedsNow where the MPD is dynamic and there is no instant; Limit where there
-/// are more than 1,000 Periods, or more than 200 Representations in the first one; PeriodsDiffer at the first Period
-/// that hasn't the kinds and languages of the first one, video before audio before text; then, by Representation in
-/// document order and at its place, Template of `media` and of `initialization`, Url of the BaseURLs and of the
-/// initialization part, and Timeline.
+/// The faults are tried in this order: `NeedsNow` where the MPD is dynamic and there is no current time; `Limit`
+/// where there are more than 1,000 Periods, or more than 200 Representations in the first one; `PeriodsDiffer` at the
+/// first Period that doesn't have the kinds and languages of the first one, video before audio before text; then, by
+/// Representation in document order and at its position, `Template` of `media` and of `initialization`, `Url` of the
+/// BaseURLs and of the init segment, and `Timeline`.
 pub fn from_mpd(
     alloc: Global,
     mpd: &Mpd,
@@ -43,7 +43,7 @@ pub fn from_mpd(
     }
 }
 
-/// The presentation of an MPD of which nothing is refused before its Representations.
+/// The presentation of an MPD that is valid apart from its Representations.
 fn present_checked(
     alloc: Global,
     mpd: &Mpd,
@@ -66,7 +66,7 @@ fn present_checked(
     }
 }
 
-/// The presentation of what Representations have.
+/// The presentation of the contents of Representations.
 fn present(
     alloc: Global,
     mpd: &Mpd,
@@ -90,7 +90,7 @@ fn present(
     Presentation::from_placed(alloc, parts, following_of(mpd, now), parted.places)
 }
 
-/// When a dynamic MPD is looked at.
+/// The timing of a dynamic MPD.
 fn following_of(mpd: &Mpd, now: Option<Instant>) -> Option<Following>
     ensures { option_map kept_following result ≡ spec.following_of mpd.now.values.facts now }
 {
@@ -116,7 +116,7 @@ fn first_in_order<'a>(
     }
 }
 
-/// What Representations have, and where they stand.
+/// The contents of Representations, and their positions.
 #[derive(Drop)]
 struct Parted {
     contents: ContentList,
@@ -137,7 +137,7 @@ fn part_all(alloc: Global, tolds: Vec<PeriodContent>) -> Result<Parted, NoMemory
 }
 
 impl Setting<'_> {
-    /// What the Representations of all Periods have, by Period and in the order of the tracks.
+    /// The contents of the Representations of all Periods, by Period and in the order of the tracks.
     fn all_told(
         &self,
         alloc: Global,
@@ -171,7 +171,7 @@ impl Setting<'_> {
         Ok(by_kind(alloc, tolds)?)
     }
 
-    /// What Representations of a Period have, in document order.
+    /// The contents of the Representations of a Period, in document order.
     fn rows_told(
         &self,
         alloc: Global,
@@ -194,7 +194,7 @@ impl Setting<'_> {
     }
 }
 
-/// What Representations of a Period have, by their kinds.
+/// The contents of the Representations of a Period, by kind.
 #[derive(Drop)]
 struct ByKind {
     video: Vec<PeriodContent>,
@@ -203,7 +203,7 @@ struct ByKind {
 }
 
 impl ByKind {
-    /// Adds them behind others in the order of the tracks.
+    /// Adds them after others in the order of the tracks.
     fn add_to(self, tolds: &mut Vec<PeriodContent>) -> Result<(), NoMemory>
         ensures { OnOk result (tolds.new.items ≡ tolds.old.items ++ (self.video.items ++ (self.audio.items ++ self.text.items))) }
     {

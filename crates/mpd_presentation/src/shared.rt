@@ -1,4 +1,4 @@
-// What many Representations share.
+// What is shared by many Representations.
 ghost use Rattle.std.specs.Prelude.{◌≡◌, IfOk, List, MatchOption, None, Some, option_and_then, slice_get};
 ghost use Rattle.std.specs.Option.{option_copied};
 ghost use Rattle.meaning.specs.Same.{Pairwise};

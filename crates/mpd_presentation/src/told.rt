@@ -1,4 +1,4 @@
-// What Representations have in their Periods.
+// The contents of Representations in their Periods.
 ghost use Rattle.std.specs.Prelude.{◌≡◌, [], IfOk, option_map, unwrap_or};
 ghost use Rattle.bridge_io.specs.Answer.{Gives, told_as};
 ghost use Rattle.timeline.specs.Names.{referred};
@@ -24,16 +24,16 @@ use template_ids::{Ids, Template, TemplateFault};
 use timeline::{End, Names, RefList, Runs, Scale, SharedNames, TimeFault};
 use url_parts::{Address, Base, Part, UrlFault};
 
-/// What a Representation has in its Period.
+/// The content of a Representation in its Period.
 #[derive(Drop)]
 pub(crate) struct PeriodContent {
     pub(crate) kind: Kind,
     pub(crate) content: Content,
-    /// Where the Representation stands.
+    /// The position of the Representation.
     pub(crate) place: Place,
 }
 
-/// Where Representations are told: the MPD's address, what they share, and whether the MPD is dynamic.
+/// The context of Representations: the MPD's URL, what they share, and whether the MPD is dynamic.
 #[derive(Clone, Copy)]
 pub(crate) struct Setting<'a> {
     pub(crate) shared: &'a Shared,
@@ -42,7 +42,8 @@ pub(crate) struct Setting<'a> {
 }
 
 impl Setting<'_> {
-    /// What a Representation has in its Period, which lasts so long. What is the same as in the former one is kept once.
+    /// The content of a Representation in its Period, which has this end. What is the same as in the previous one is
+    /// shared.
     pub(crate) fn told(
         &self,
         alloc: Global,
@@ -156,7 +157,7 @@ fn list_of(alloc: Global, told: &Addressing<'_>) -> Result<SharedNames, NoMemory
     }
 }
 
-/// How the media times of a Representation are counted, and its segments numbered.
+/// The timescale and offset of a Representation, and the numbering of its segments.
 fn scale_of(told: &Addressing<'_>) -> Scale
     ensures { result ≡ scale_of (addressed told.now) }
 {
@@ -172,7 +173,7 @@ fn scale_of(told: &Addressing<'_>) -> Scale
 /// The last number below 2^63.
 const LAST_NUMBER: u64 = (1 << 63) - 1;
 
-/// The template of the segments' addresses.
+/// The template of the segment URLs.
 fn media_of(
     alloc: Global,
     told: &Addressing<'_>,
@@ -187,7 +188,7 @@ fn media_of(
     }
 }
 
-/// The template of the initialization part's address, where the attribute tells it.
+/// The template of the init segment's URL, where the attribute gives it.
 fn init_of(
     alloc: Global,
     told: &Addressing<'_>,
@@ -215,7 +216,7 @@ fn init_template(alloc: Global, text: &str, former: &mut Former) -> Result<Templ
     Ok(template)
 }
 
-/// What the BaseURLs of a Representation give.
+/// The base that the BaseURLs of a Representation give.
 fn base_of(
     alloc: Global,
     url: &Base,
@@ -230,7 +231,7 @@ fn base_of(
     }
 }
 
-/// The initialization part of a Representation.
+/// The init segment of a Representation.
 fn initialization_of(
     alloc: Global,
     row: &RepView<'_>,
@@ -284,7 +285,7 @@ fn init_name(alloc: Global, row: &RepView<'_>, template: &Template) -> Result<Te
     Ok(template.name(alloc, &ids)?)
 }
 
-/// The address of a reference against a base. An absent one is the base itself.
+/// The URL of a reference against a base. A missing reference is the base itself.
 #[tactic(auto, using(crate::proofs::OwnAddress::own_address))]
 fn refer(
     alloc: Global,

@@ -1,4 +1,4 @@
--- What the elements before one in its parent say of it.
+-- What matters of the earlier siblings of an element.
 use Rattle.std.specs.{Prelude.{◌≡◌, ℕ, ◌&&◌, Bool, List, codes, map}, List.list_any}
 use Rattle.bridge_io.specs.Texts.{is_among}
 use Rattle.mpd_tree.specs.Trees.{Head}
@@ -7,7 +7,7 @@ use Rattle.mpd_profile.specs.{declared.siblings.Siblings.Siblings, Features.{is_
 abbrev pub holds_id : Siblings → List ℕ → Bool
 holds_id siblings id = is_among id (map (λ key. key.now) siblings.ids.keys)
 
--- what is kept of the elements before
+-- what is stored of the earlier siblings
 pub record IsBehind (siblings : Siblings) (dynamic : Bool) (before : List Head) : Type 0 where
   pub segments : siblings.segments ≡ list_any (λ head. is_segment_element head.name) before
   pub timeline : siblings.timeline ≡ is_among (codes "SegmentTimeline") (names_of before)

@@ -1,5 +1,5 @@
--- The elements and attributes of ISO/IEC 23009-1, 5.3 that are read. What is in none of these tables is passed over
--- whole.
+-- The elements and attributes of ISO/IEC 23009-1, 5.3 that are read. What is in none of these tables is ignored, with its
+-- content.
 use Rattle.std.specs.Prelude.{ℕ, ◌^◌, List, [], ◌∷◌, codes, bytes_eq, find, Option, option_map}
 use Rattle.mpd_profile.specs.{declared.listed.Listed.Listed, declared.listed.Listed.TheVariants.{Mpd, BaseUrl, Period, AdaptationSet}}
 use Rattle.mpd_profile.specs.declared.listed.Listed.TheVariants.{Representation, SegmentTemplate, SegmentList, SegmentBase, Initialization}
@@ -8,20 +8,20 @@ use Rattle.mpd_profile.specs.{declared.listed.Addressing.TheVariants.{Segments, 
 use Rattle.mpd_profile.specs.declared.value.Value.TheVariants.{MpdType, Instant, Duration, AnyText, Number, Signed, FrameRate, Codes}
 use Rattle.mpd_profile.specs.declared.value.Value.TheVariants.{Language, Range}
 
--- a name with what it names
+-- a name with its entry
 abbrev pub Named : Type 0 → Type 0
 Named X = List ℕ × X
 
--- what a name names in a table: the first row that has it
+-- the entry of a name in a table: that of the first row that has it
 abbrev pub named_in : {X : Type 0} → List (Named X) → List ℕ → Option X
 named_in rows name = option_map (λ row. row.1) (find (λ row. bytes_eq row.0 name) rows)
 
--- an element that tells where segments lie may stand in a Period, an AdaptationSet and a Representation
+-- an element with segment information may occur in a Period, an AdaptationSet and a Representation
 abbrev pub segment_elements : List (Named Listed)
 segment_elements =
     (codes "SegmentTemplate", SegmentTemplate) ∷ (codes "SegmentList", SegmentList) ∷ (codes "SegmentBase", SegmentBase) ∷ []
 
--- the elements that are read in a parent; with an index inside of the files also those of a SegmentBase
+-- the elements that are read in a parent; with `sidx` addressing also those of a SegmentBase
 abbrev pub children_of : Addressing → Listed → List (Named Listed)
 children_of addressing Mpd = (codes "BaseURL", BaseUrl) ∷ (codes "Period", Period) ∷ []
 children_of addressing Period = (codes "BaseURL", BaseUrl) ∷ (codes "AdaptationSet", AdaptationSet) ∷ segment_elements
@@ -38,7 +38,7 @@ children_of addressing Initialization = []
 children_of addressing S = []
 children_of addressing SegmentUrl = []
 
--- what an AdaptationSet and its Representations may both say
+-- what an AdaptationSet and its Representations may both have
 abbrev pub common_attributes : List (Named Value)
 common_attributes =
     (codes "mimeType", AnyText) ∷ (codes "codecs", Codes) ∷ (codes "width", Number 0 (2 ^ 32)) ∷ (codes "height", Number 0 (2 ^ 32))
@@ -50,7 +50,7 @@ segment_attributes =
     (codes "timescale", Number 1 (2 ^ 32)) ∷ (codes "duration", Number 0 (2 ^ 63)) ∷ (codes "startNumber", Number 0 (2 ^ 63))
     ∷ (codes "presentationTimeOffset", Number 0 (2 ^ 63)) ∷ []
 
--- the attributes that are read of an element, and what each is to be
+-- the attributes that are read of an element, with their value types
 abbrev pub attributes_of : Addressing → Listed → List (Named Value)
 attributes_of addressing Mpd =
     (codes "type", MpdType) ∷ (codes "availabilityStartTime", Instant) ∷ (codes "publishTime", Instant)
@@ -68,10 +68,10 @@ attributes_of addressing SegmentTimeline = []
 attributes_of addressing S = (codes "t", Number 0 (2 ^ 63)) ∷ (codes "d", Number 0 (2 ^ 63)) ∷ (codes "r", Signed) ∷ []
 attributes_of addressing SegmentUrl = (codes "media", AnyText) ∷ (codes "mediaRange", Range) ∷ []
 
--- the element that a name names in a parent
+-- the kind of an element by its name and its parent
 abbrev pub child_of : Addressing → Listed → List ℕ → Option Listed
 child_of addressing parent name = named_in (children_of addressing parent) name
 
--- what an attribute of an element is to be
+-- the value type of an attribute of an element
 abbrev pub value_of : Addressing → Listed → List ℕ → Option Value
 value_of addressing listed name = named_in (attributes_of addressing listed) name

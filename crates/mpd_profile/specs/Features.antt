@@ -1,4 +1,4 @@
--- Features of ISO/IEC 23009-1 that are refused by name wherever they stand.
+-- Features of ISO/IEC 23009-1 that are rejected with an error code wherever they occur.
 use Rattle.mpd_profile.specs.declared.fault.RuleFault.TheVariants as fault
 use Rattle.std.specs.Prelude.{ℕ, ◌&&◌, ◌||◌, Bool, true, false, List, [], ◌∷◌, ◌++◌, codes, bytes_eq, map, flat_map, if◌then◌else◌}
 use Rattle.std.specs.{Prelude.{Option, Some, None, option_and_then}, List.list_any}
@@ -12,13 +12,13 @@ use Rattle.mpd_profile.specs.{Elements.{Named, named_in}, Heads.value_over, Visi
 
 -- ---- elements
 
--- refused in every element that is read
+-- rejected in every element that is read
 abbrev pub refused_elements : List (Named Feature)
 refused_elements =
     (codes "ContentProtection", Encryption) ∷ (codes "EventStream", Events) ∷ (codes "InbandEventStream", Events)
     ∷ (codes "Subset", Unsupported) ∷ (codes "Preselection", Unsupported) ∷ (codes "PatchLocation", Unsupported) ∷ []
 
--- a property that the MPD or a Period can't be played without
+-- an EssentialProperty of the MPD or a Period
 abbrev pub is_essential_in : Listed → List ℕ → Bool
 is_essential_in Mpd name = bytes_eq name (codes "EssentialProperty")
 is_essential_in Period name = bytes_eq name (codes "EssentialProperty")
@@ -31,7 +31,7 @@ is_segment_element name =
 abbrev pub names_of : List Head → List (List ℕ)
 names_of heads = map (λ head. head.name) heads
 
--- the second of those elements of which one parent has one
+-- the second of an element that a parent may have only once
 abbrev pub is_second : List Head → List ℕ → Bool
 is_second before name =
     (is_segment_element name && list_any (λ head. is_segment_element head.name) before)
@@ -45,7 +45,7 @@ feature_if parent second name =
 abbrev pub element_feature : Parent → List Head → List ℕ → Option Feature
 element_feature parent before name = feature_if parent.listed (is_second before name) name
 
--- a code of a Representation stands for another kind of media than its own
+-- a codec of a Representation is of another kind than its media type
 abbrev pub has_foreign : Option Kind → Option (List ℕ) → Bool
 has_foreign (Some kind) (Some codecs) = has_foreign_code kind codecs
 has_foreign (Some kind) None = false
@@ -66,7 +66,7 @@ parent_feature (Some parent) before name = element_feature parent before name
 
 -- ---- attributes
 
--- an attribute of an S, which counts segments or tells where one is cut (5.3.9.6)
+-- an attribute of an S that groups or splits segments (5.3.9.6)
 abbrev pub s_features : Listed → List (Named Feature)
 s_features S = (codes "k", LowLatency) ∷ (codes "n", Unsupported) ∷ []
 s_features other = []
@@ -74,17 +74,17 @@ s_features other = []
 abbrev pub static_features : Listed → List (Named Feature)
 static_features listed = (codes "xlink:href", Remote) ∷ (codes "endNumber", Unsupported) ∷ s_features listed
 
--- when segments are there is told only of a dynamic MPD
+-- when segments are available matters only for a dynamic MPD
 abbrev pub refused_attributes : (dynamic : Bool) → Listed → List (Named Feature)
 refused_attributes true listed = (codes "availabilityTimeOffset", LowLatency) ∷ static_features listed
 refused_attributes false listed = static_features listed
 
--- segments are told before they are whole (5.3.9.2)
+-- segments are available before they are complete (5.3.9.2)
 abbrev pub is_incomplete : Attribute → Bool
 is_incomplete attribute =
     bytes_eq attribute.name (codes "availabilityTimeComplete") && bytes_eq (trimmed Space attribute.value) (codes "false")
 
--- an S has few others (5.3.9.6)
+-- the usual attributes of an S (5.3.9.6)
 abbrev pub is_entry_value : List ℕ → Bool
 is_entry_value name = bytes_eq name (codes "t") || (bytes_eq name (codes "d") || bytes_eq name (codes "r"))
 
@@ -102,7 +102,7 @@ fault_at Remote place = fault.Remote place
 fault_at Essential place = fault.Essential place
 fault_at Unsupported place = fault.Unsupported place
 
--- a refusal at a place, where there is one
+-- the error of a feature at a position, where there is one
 abbrev pub told_at : Place → Option Feature → List RuleFault
 told_at place None = []
 told_at place (Some feature) = fault_at feature place ∷ []

@@ -1,4 +1,4 @@
--- What a pass refuses, element by element.
+-- The errors that a pass finds, element by element.
 use Rattle.mpd_profile.specs.declared.parent.Parent as parents
 use Rattle.mpd_profile.specs.declared.visit.Visit as visits
 use Rattle.std.specs.{Prelude.{List, [], ◌∷◌, ◌++◌, flat_map, if◌then◌else◌, option_map}, Borrow.Bor}
@@ -9,7 +9,7 @@ use Rattle.mpd_profile.specs.{declared.visit.Pass.TheVariants.{Both, Features, V
 use Rattle.mpd_profile.specs.{LeftOut.is_left_out, Refusals.values_at}
 use Rattle.mpd_profile.specs.Visits.{Parent, Visit, inside, parent_in, visit_in, visits_in, visits_of}
 
--- ---- what the code holds
+-- ---- the values of the code's types
 
 abbrev pub parent_shown : parents.Parent → Parent
 parent_shown parent = record { listed = parent.listed; head = (element_of parent.node).head; dynamic = parent.dynamic }
@@ -25,7 +25,7 @@ visit_shown visit before = record {
 
 -- ---- the passes
 
--- a pass over features looks at every element that a pass over values of plain segments does
+-- a pass over features checks every element that a pass over values does without SegmentBase
 abbrev pub addressing_of : Pass → Addressing
 addressing_of Features = Segments
 addressing_of (Values addressing) = addressing
@@ -36,11 +36,11 @@ told_by Features visit = features_at visit
 told_by (Values addressing) visit = values_at addressing visit
 told_by Both visit = features_at visit ++ values_at Segments visit
 
--- in the elements that stand in a parent, behind others
+-- in the elements of a parent, after others
 unfoldable pub refused_inside : Pass → Parent → List Head → Forest → List RuleFault
 refused_inside pass parent before children = flat_map (told_by pass) (visits_in (addressing_of pass) parent before children)
 
--- in one of them with what stands in it
+-- in one of them, with its content
 unfoldable pub refused_child : Pass → Parent → List Head → Element → List RuleFault
 refused_child pass parent before e =
     flat_map (told_by pass)
@@ -49,7 +49,7 @@ refused_child pass parent before e =
     ∷ inside (child_of (addressing_of pass) parent.listed e.head.name)
     (λ listed. visits_in (addressing_of pass) (parent_in parent listed e.head) [] e.children))
 
--- in one after the other
+-- in each of them, in order
 unfoldable pub refused_along : Pass → Parent → List Head → List Element → List RuleFault
 refused_along pass parent before [] = []
 refused_along pass parent before (e ∷ others) = refused_child pass parent before e ++ refused_along pass parent

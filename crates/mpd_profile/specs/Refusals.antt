@@ -1,4 +1,4 @@
--- What is refused in an MPD before its Periods and Representations are put together, pass by pass.
+-- The errors in an MPD before its Periods and Representations are put together, pass by pass.
 use Rattle.std.specs.Prelude.{ℕ, ◌&&◌, ◌||◌, not, Bool, true, false, List, [], ◌∷◌, ◌++◌, codes, bytes_eq, flat_map, is_none}
 use Rattle.std.specs.{Prelude.{if◌then◌else◌, Option, Some, None}, List.list_any}
 use Rattle.mpd_tree.specs.Trees.{Attribute, Head, Element}
@@ -10,7 +10,7 @@ use Rattle.mpd_profile.specs.{declared.listed.Listed.TheVariants.{Mpd, Period, R
 use Rattle.mpd_profile.specs.{declared.listed.Addressing.TheVariants.Segments, Elements.value_of, Values.is_value}
 use Rattle.mpd_profile.specs.{Heads.{value_over, value_named}, Visits.{Parent, Visit, visits_of}, Features.features_at}
 
--- ---- the root (ISO/IEC 23009-1, 5.3.1.2), compared without regard to ASCII case
+-- ---- the root (ISO/IEC 23009-1, 5.3.1.2), compared ignoring ASCII case
 
 abbrev pub is_namespace : Option (List ℕ) → Bool
 is_namespace None = false
@@ -28,7 +28,7 @@ feature_refusals root = flat_map features_at (visits_of Segments root)
 
 -- ---- values
 
--- the attributes without which an element says too little
+-- the required attributes of an element
 abbrev pub required_of : Option Listed → (dynamic : Bool) → List (List ℕ)
 required_of (Some Mpd) true = codes "availabilityStartTime" ∷ []
 required_of (Some Period) true = codes "id" ∷ []
@@ -39,12 +39,12 @@ required_of other dynamic = []
 abbrev pub lacks : Head → List ℕ → Bool
 lacks head name = is_none (value_named name head)
 
--- a Representation has no media type, not from its set either
+-- a Representation has no media type, not from its AdaptationSet either
 abbrev pub has_no_type : Option Listed → Option Parent → Head → Bool
 has_no_type (Some Representation) (Some set) head = is_none (value_over (codes "mimeType") set.head head)
 has_no_type listed parent head = false
 
--- a Period of a dynamic MPD has the id of one before it
+-- a Period of a dynamic MPD has the id of an earlier one
 abbrev pub is_same_id : Option (List ℕ) → List ℕ → Bool
 is_same_id None id = false
 is_same_id (Some other) id = bytes_eq other id
@@ -76,7 +76,7 @@ abbrev pub attributes_told : Addressing → Visit → Option Listed → List Rul
 attributes_told addressing visit None = []
 attributes_told addressing visit (Some listed) = flat_map (attribute_told addressing visit listed) visit.head.attributes
 
--- what lacks at an element, then the values of its attributes
+-- what is missing at an element, then the values of its attributes
 abbrev pub values_at : Addressing → Visit → List RuleFault
 values_at addressing visit =
     (if list_any (lacks visit.head) (required_of visit.listed visit.dynamic) || has_no_type visit.listed visit.parent visit.head
@@ -86,13 +86,13 @@ values_at addressing visit =
 unfoldable pub value_refusals : Addressing → Element → List RuleFault
 value_refusals addressing root = flat_map (values_at addressing) (visits_of addressing root)
 
--- ---- the passes one after another
+-- ---- the passes in order
 
--- of an MPD whose segments are addressed so
+-- of an MPD with this addressing
 unfoldable pub refusals_of : Addressing → Element → List RuleFault
 refusals_of addressing root = root_refusals root ++ feature_refusals root ++ value_refusals addressing root
 
--- want of memory tells nothing of an MPD
+-- out of memory says nothing about an MPD
 abbrev pub refusal : RuleFault → Option RuleFault
 refusal Memory = None
 refusal fault = Some fault

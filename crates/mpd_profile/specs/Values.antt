@@ -16,7 +16,7 @@ has_room least bound = least == 0 && nat_le (10 ^ 18) bound
 abbrev pub are_few_digits : List ℕ → Bool
 are_few_digits text = list_all is_ascii_digit text && (not (length text == 0) && nat_le (length text) 18)
 
--- a text is what an attribute is to be. Spaces around durations, instants, numbers and ranges are dropped
+-- a text is a valid value of a type; spaces around durations, timestamps, numbers and ranges are dropped
 unfoldable pub is_value : Value → List ℕ → Bool
 is_value MpdType text = bytes_eq text (codes "static") || bytes_eq text (codes "dynamic")
 is_value Instant text = is_ok (instant_of (trimmed Space text))

@@ -1,17 +1,17 @@
--- An MPD's elements in document order, as far as they are looked at: the elements that are read, and what stands
--- directly in them. What is left out is passed over whole.
+-- An MPD's elements in document order, as far as they are checked: the elements that are read, and their children. What is
+-- dropped is skipped, with its content.
 use Rattle.std.specs.Prelude.{Bool, List, [], ◌∷◌, ◌++◌, if◌then◌else◌, Option, Some, None}
 use Rattle.mpd_tree.specs.Trees.{Head, Forest, nothing, element, Element}
 use Rattle.mpd_profile.specs.{declared.listed.Listed.Listed, declared.listed.Listed.TheVariants.Mpd, declared.listed.Addressing.Addressing}
 use Rattle.mpd_profile.specs.{Elements.child_of, Heads.is_dynamic, LeftOut.is_left_out}
 
--- what an element stands in: the parent, what it is read as, and whether the MPD is dynamic
+-- the parent of an element, with its kind, and whether the MPD is dynamic
 pub record Parent : Type 0 where
   pub listed : Listed
   pub head : Head
   pub dynamic : Bool
 
--- an element where it stands: in a parent behind other elements; the root stands in none
+-- an element with its context: its parent and its earlier siblings; the root has no parent
 pub record Visit : Type 0 where
   pub parent : Option Parent
   pub before : List Head
@@ -31,17 +31,17 @@ visit_in addressing parent before head = record {
 abbrev pub parent_in : Parent → Listed → Head → Parent
 parent_in parent listed head = record { listed = listed; head = head; dynamic = parent.dynamic }
 
--- what stands in an element, where that is read
+-- what is in an element, where that is read
 abbrev pub inside : {X : Type 0} → Option Listed → (Listed → List X) → List X
 inside None visits = []
 inside (Some listed) visits = visits listed
 
--- what an element is read as, where others stand in it
+-- the kind of an element, where it has children
 abbrev pub unless_empty : Forest → Option Listed → Option Listed
 unless_empty nothing listed = None
 unless_empty (element head children others) listed = listed
 
--- the elements that stand in a parent, behind others
+-- the elements of a parent, after others
 unfoldable pub visits_in : Addressing → Parent → List Head → Forest → List Visit
 visits_in addressing parent before nothing = []
 visits_in addressing parent before (element head children others) =

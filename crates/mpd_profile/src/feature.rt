@@ -1,4 +1,4 @@
-// Features that are refused by name.
+// Features that are rejected with an error code of their own.
 ghost use Rattle.std.specs.Prelude.{◌≡◌, map, option_map};
 ghost use Rattle.mpd_tree.specs.Views.{attribute_shown};
 ghost use Rattle.mpd_profile.specs.Features as spec;
@@ -12,7 +12,7 @@ use bridge_io::Place;
 use mpd_tree::Attr;
 use mpd_values::{Blank, has_foreign_code, kind_of, trimmed};
 
-/// A feature that is refused wherever it stands.
+/// A feature that is rejected wherever it occurs.
 #[derive(Clone, Copy)]
 pub(crate) enum Feature {
     Encryption,
@@ -38,8 +38,8 @@ impl Feature {
     }
 }
 
-/// The feature that an element is by its name and its parent, where it isn't the second of those of which one
-/// parent has one.
+/// The feature that an element is, by its name and its parent, or because it is the second of an element that a
+/// parent may have only once.
 pub(crate) fn element_feature(parent: Listed, is_second: bool, name: &str) -> Option<Feature>
     ensures { result ≡ spec.feature_if parent is_second name.now }
 {
@@ -67,7 +67,7 @@ fn is_essential_in(parent: Listed, name: &str) -> bool
     }
 }
 
-/// Whether a code stands for another kind of media than a Representation of this media type.
+/// Whether one of the codecs is of another kind than a Representation of this media type.
 pub(crate) fn has_foreign(media_type: Option<&str>, codecs: Option<&str>) -> bool
     ensures { result ≡ spec.has_foreign (spec.kind_named (option_map (λ text. text.now) media_type.entry))
         (option_map (λ text. text.now) codecs.entry) }
@@ -81,7 +81,7 @@ pub(crate) fn has_foreign(media_type: Option<&str>, codecs: Option<&str>) -> boo
     }
 }
 
-/// The feature that an attribute is.
+/// The feature of an attribute.
 #[tactic(auto, using(crate::proofs::Untold::entry_untold))]
 pub(crate) fn attribute_feature(dynamic: bool, listed: Listed, attr: Attr<'_>) -> Option<Feature>
     ensures { result ≡ spec.attribute_feature dynamic listed (attribute_shown attr.entry) }
@@ -101,7 +101,7 @@ fn refused_feature(dynamic: bool, listed: Listed, attr: Attr<'_>) -> Option<Feat
     named_in(refused_attributes(dynamic, listed), attr.name)
 }
 
-/// Whether a name is one of those that the attributes of an S mostly have, none of which is a feature.
+/// Whether a name is one of the usual attributes of an S, none of which is a feature.
 fn is_entry_value(name: &str) -> bool
     ensures { result ≡ spec.is_entry_value name.now }
 {

@@ -1,4 +1,4 @@
-// What elements say.
+// The attributes and children of elements.
 ghost use Rattle.std.specs.Prelude.{◌≡◌, option_map};
 ghost use Rattle.mpd_tree.specs.Nodes.{element_of};
 ghost use Rattle.mpd_profile.specs.Heads as spec;
@@ -12,8 +12,8 @@ pub fn value_named<'a>(node: Node<'a>, name: &str) -> Option<&'a str>
     Some(node.attribute(name)?.value)
 }
 
-/// Whether a name is shorter than each one that refuses an element or of which one parent has one, so that it is none of
-/// them.
+/// Whether a name is shorter than all names of rejected elements and of elements that a parent may have only once, so
+/// that it is none of them.
 pub(crate) fn is_short(name: &str) -> bool
     ensures { result ≡ spec.is_short name.now }
 {
@@ -27,7 +27,7 @@ pub fn has_child(node: Node<'_>, name: &str) -> bool
     node.children().any(|child| child.name() == name)
 }
 
-/// Whether an MPD is dynamic: exactly where its type is that word.
+/// Whether an MPD is dynamic: exactly where its type is `dynamic`.
 pub fn is_dynamic(mpd: Node<'_>) -> bool
     ensures { result ≡ spec.is_dynamic (element_of mpd.entry).head }
 {

@@ -1,4 +1,4 @@
-// What is left out.
+// What is dropped.
 ghost use Rattle.std.specs.Prelude.{◌≡◌, option_map};
 ghost use Rattle.std.specs.List.{list_all};
 ghost use Rattle.mpd_tree.specs.Nodes.{element_of};
@@ -10,11 +10,11 @@ use crate::listed::Listed;
 use mpd_tree::Node;
 use mpd_values::kind_of;
 
-/// A property without which an element can't be played (ISO/IEC 23009-1, 5.8.4.8).
+/// A property without whose support an element can't be played (ISO/IEC 23009-1, 5.8.4.8).
 pub(crate) const ESSENTIAL: &str = "EssentialProperty";
 
-/// Whether an element is left out, by what it is read as and the media type that its parent says. What is neither an
-/// AdaptationSet nor a Representation isn't.
+/// Whether an element is dropped, by its kind and the media type of its parent. Only AdaptationSets and
+/// Representations are.
 pub fn is_left_out(media_type: Option<&str>, listed: Option<Listed>, node: Node<'_>) -> bool
     ensures { result ≡ spec.is_left_out_by (option_map (λ text. text.now) media_type.entry) listed (element_of node.entry) }
 {
@@ -25,7 +25,7 @@ pub fn is_left_out(media_type: Option<&str>, listed: Option<Listed>, node: Node<
     }
 }
 
-/// Whether a set is left out: it has a property that it can't be played without, or no Representation that is kept.
+/// Whether an AdaptationSet is dropped: it has an EssentialProperty, or all its Representations are dropped.
 #[tactic(auto, unfolding(crate::specs::LeftOut::is_set_left_out))]
 pub fn is_set_left_out(set: Node<'_>) -> bool
     ensures { result ≡ spec.is_set_left_out (element_of set.entry) }
@@ -33,8 +33,8 @@ pub fn is_set_left_out(set: Node<'_>) -> bool
     has_child(set, ESSENTIAL) || has_none_kept(set)
 }
 
-/// Whether a Representation is left out of a set that says this media type: the one that holds for it isn't played,
-/// or it has a property that it can't be played without.
+/// Whether a Representation of an AdaptationSet with this media type is dropped: its effective media type isn't
+/// supported, or it has an EssentialProperty.
 #[tactic(auto, unfolding(crate::specs::LeftOut::is_representation_left_out))]
 pub fn is_representation_left_out(media_type: Option<&str>, representation: Node<'_>) -> bool
     ensures { result ≡ spec.is_representation_left_out (option_map (λ text. text.now) media_type.entry) (element_of representation.entry) }
@@ -51,7 +51,7 @@ fn has_none_kept(set: Node<'_>) -> bool
     set.children().all(|child| is_none_kept(media_type, child))
 }
 
-/// Whether a child of a set is no Representation, or one that is left out.
+/// Whether a child of an AdaptationSet isn't a Representation, or is dropped.
 fn is_none_kept(media_type: Option<&str>, child: Node<'_>) -> bool
     ensures { result ≡ spec.is_none_kept (option_map (λ text. text.now) media_type.entry) (element_of child.entry) }
 {

@@ -1,5 +1,5 @@
-//! What of ISO/IEC 23009-1 is read, and what is refused wherever it stands in an MPD: the elements and attributes
-//! with their values, the features that are refused by name, and what is left out and passed over.
+//! Which part of ISO/IEC 23009-1 is read, and what is rejected wherever it occurs in an MPD: the elements and
+//! attributes with their values, the features that are rejected with an error code, and what is dropped and ignored.
 #![tactic(auto)]
 
 mod fault;

@@ -13,11 +13,11 @@ use crate::value::Value;
 pub enum Addressing {
     /// One by one, by a SegmentTemplate or a SegmentList.
     Segments,
-    /// By an index inside of each file, which a SegmentBase tells.
+    /// By the `sidx` of each file, whose byte range SegmentBase gives.
     Index,
 }
 
-/// An element of ISO/IEC 23009-1, 5.3 that is read, by its name and the parent that it stands in.
+/// An element of ISO/IEC 23009-1, 5.3 that is read, by its name and its parent.
 #[derive(Clone, Copy, PartialEq, Eq)]
 pub enum Listed {
     /// The root, 5.3.1.
@@ -47,14 +47,14 @@ pub enum Listed {
 }
 
 impl Listed {
-    /// What an element of that name in this parent is read as. It isn't read where there is nothing.
+    /// The kind of an element of that name in this parent. `None` is ignored.
     pub fn child(self, name: &str, addressing: Addressing) -> Option<Listed>
         ensures { result ≡ spec.child_of addressing self name.now }
     {
         named_in(self.children(addressing), name)
     }
 
-    /// What an attribute of that name of this element is to be. It isn't read where there is nothing.
+    /// The value type of an attribute of that name of this element. `None` is ignored.
     pub fn attribute(self, name: &str, addressing: Addressing) -> Option<Value>
         ensures { result ≡ spec.value_of addressing self name.now }
     {
@@ -99,7 +99,7 @@ impl Listed {
     }
 }
 
-/// What an attribute of an S is to be, which most MPDs have the most of.
+/// The value type of an attribute of an S, the most frequent element of most MPDs.
 fn run_value(name: &str) -> Option<Value>
     ensures { result ≡ spec.value_of Segments S name.now }
 {
@@ -112,7 +112,7 @@ fn run_value(name: &str) -> Option<Value>
     }
 }
 
-/// What a name names in a table: the first row that has it.
+/// The entry of a name in a table: that of the first row that has it.
 pub(crate) fn named_in<T: Copy>(rows: &[(&'static str, T)], name: &str) -> Option<T>
     ensures { result ≡ spec.named_in (map shown rows.now) name.now }
 {

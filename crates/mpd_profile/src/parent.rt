@@ -1,4 +1,4 @@
-// What elements stand in.
+// The parents of elements.
 ghost use Rattle.std.specs.Prelude.{◌≡◌, codes, option_map};
 ghost use Rattle.mpd_tree.specs.Nodes.{element_of};
 ghost use Rattle.mpd_profile.specs.Heads.{value_named};
@@ -7,7 +7,7 @@ use crate::heads::value_named;
 use crate::listed::Listed;
 use mpd_tree::Node;
 
-/// An element that is read, as the parent of others. What its children may take over from it is looked up once.
+/// An element that is read, as the parent of others. What its children may inherit from it is looked up once.
 #[derive(Clone, Copy)]
 pub(crate) struct Parent<'a> {
     pub(crate) listed: Listed,

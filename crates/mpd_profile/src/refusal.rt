@@ -1,4 +1,4 @@
-// The passes.
+// The passes over an MPD.
 ghost use Rattle.std.specs.Prelude.{◌≡◌, List, [], Ok, OnOk, true};
 ghost use Rattle.bridge_io.specs.Answer.{Gives};
 ghost use Rattle.bridge_io.specs.Firsts.{first_fault};
@@ -27,10 +27,10 @@ use std::alloc::Global;
 /// The namespace of an MPD (ISO/IEC 23009-1, 5.3.1.2).
 const NAMESPACE: &str = "urn:mpeg:dash:schema:mpd:2011";
 
-/// Looks for the first refusal in an MPD whose segments are addressed so: of its root (ISO/IEC 23009-1, 5.3.1.2), then
-/// of features, then of values (5.3), each in document order. What is left out is passed over.
+/// Finds the first error in an MPD with this addressing: of its root (ISO/IEC 23009-1, 5.3.1.2), then of features,
+/// then of values (5.3), each in document order. What is dropped isn't checked.
 ///
-/// The answer is that refusal with its place, or `Memory`, which says nothing of the MPD.
+/// The result is that error with its position, or `Memory`, which says nothing about the MPD.
 pub fn check(alloc: Global, tree: &Tree, addressing: Addressing) -> Result<(), RuleFault>
     ensures refused { Gives (λ u. u) refusal result (first_fault (refusals_of addressing (root_of tree.now))) }
     ensures sound { OnOk result (IsSound addressing (is_dynamic (root_of tree.now).head) Mpd (root_of tree.now)) }
@@ -44,7 +44,7 @@ pub fn check(alloc: Global, tree: &Tree, addressing: Addressing) -> Result<(), R
     check_all(alloc, root, Pass::Values(addressing))
 }
 
-/// Whether neither pass refuses anything, as one walk over an MPD of plain segments shows. Where it doesn't, each pass tells.
+/// Whether neither pass finds an error, by one walk over an MPD without SegmentBase. Otherwise each pass is run.
 fn is_untold(alloc: Global, root: Node<'_>, addressing: Addressing) -> bool
     ensures { result ≡ true → (first_fault (passes.refused_in Features (element_of root.entry)) ≡ Ok tt)
         × (first_fault (passes.refused_in (Values addressing) (element_of root.entry)) ≡ Ok tt) }
@@ -83,7 +83,7 @@ fn check_all(alloc: Global, root: Node<'_>, pass: Pass) -> Result<(), RuleFault>
     check_inside(alloc, &Parent::of(Listed::Mpd, root, dynamic), pass)
 }
 
-/// Looks at what stands in an element that is read.
+/// Checks the children of an element that is read.
 #[cycle(inside)]
 fn check_inside(alloc: Global, parent: &Parent<'_>, pass: Pass) -> Result<(), RuleFault>
     ensures { Gives (λ u. u) refusal result (first_fault (passes.refused_inside pass (passes.parent_shown parent.now) []
@@ -97,7 +97,7 @@ fn check_inside(alloc: Global, parent: &Parent<'_>, pass: Pass) -> Result<(), Ru
     Ok(())
 }
 
-/// Looks at an element behind others, and at what stands in it.
+/// Checks an element after its siblings, and its children.
 #[cycle(inside)]
 fn check_child<'a>(
     alloc: Global,
@@ -128,7 +128,7 @@ fn check_child<'a>(
     }
 }
 
-/// What an element is read as, where others stand in it.
+/// The kind of an element, where it has children.
 fn around_others(listed: Option<Listed>, node: Node<'_>) -> Option<Listed>
     ensures { result ≡ unless_empty (element_of node.entry).children listed }
 {

@@ -1,4 +1,4 @@
-// What stands before an element in its parent.
+// The earlier siblings of an element.
 ghost use Rattle.std.specs.Prelude.{◌≡◌, ◌&&◌, ◌||◌, Bool, ◌∷◌, [], ◌++◌, List, IfErr, OnOk, option_map, if◌then◌else◌, None};
 ghost use Rattle.std.specs.List.{list_any};
 ghost use Rattle.mpd_tree.specs.Nodes.{element_of};
@@ -14,7 +14,8 @@ use mpd_tree::Node;
 use std::alloc::Global;
 use std::collections::BTreeSet;
 
-/// What the elements before one in its parent say of it: which elements there is one of, and which ids Periods have.
+/// What matters of the earlier siblings of an element: which elements that may occur only once there are, and which
+/// ids Periods have.
 #[derive(Drop)]
 pub(crate) struct Siblings<'a> {
     segments: bool,
@@ -35,7 +36,7 @@ impl<'a> Siblings<'a> {
         }
     }
 
-    /// Whether an element of this name is the second of those of which one parent has one.
+    /// Whether an element of this name is the second of an element that a parent may have only once.
     pub(crate) fn is_second(&self, name: &str) -> bool
         ensures { (dynamic : Bool) (before : List Head) → IsBehind self.now dynamic before → result ≡ spec.is_second before name.now }
     {
@@ -44,7 +45,7 @@ impl<'a> Siblings<'a> {
             || (name == "Initialization" && self.initialization)
     }
 
-    /// Whether a Period before has this id.
+    /// Whether an earlier Period has this id.
     pub(crate) fn has_id(&self, id: &str) -> bool
         ensures { (dynamic : Bool) (before : List Head) → IsBehind self.now dynamic before
             → result ≡ (dynamic && list_any (has_id id.now) before) }
@@ -52,7 +53,7 @@ impl<'a> Siblings<'a> {
         self.ids.contains(id.as_bytes())
     }
 
-    /// Adds an element behind the others; the ids of Periods only of a dynamic MPD.
+    /// Adds an element after the others; the ids of Periods only for a dynamic MPD.
     pub(crate) fn add(&mut self, node: Node<'a>, dynamic: bool) -> Result<(), RuleFault>
         ensures added { (before : List Head) → IsBehind self.old dynamic before
             → OnOk result (IsBehind self.new dynamic (before ++ (element_of node.entry).head ∷ [])) }

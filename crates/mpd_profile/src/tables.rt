@@ -1,4 +1,4 @@
-// The names of elements and attributes that are read, and what each is.
+// The names of elements and attributes that are read, with their kinds.
 use crate::feature::Feature;
 use crate::listed::Listed;
 use crate::value::Value;

@@ -1,4 +1,4 @@
-// What attributes are to be.
+// The value types of attributes.
 ghost use Rattle.std.specs.Prelude.{◌≡◌, is_some};
 ghost use Rattle.std.specs.Char.{is_ascii_digit};
 ghost use Rattle.std.specs.List.{list_all};
@@ -11,7 +11,7 @@ use mpd_values::{
 };
 use url_parts::read_range;
 
-/// What the value of an attribute is to be.
+/// The value type of an attribute.
 #[derive(Clone, Copy)]
 pub enum Value {
     /// `static` or `dynamic` (ISO/IEC 23009-1, 5.3.1.2).
@@ -22,22 +22,22 @@ pub enum Value {
     Duration,
     /// Any text.
     AnyText,
-    /// A number from the first one on and below the second one.
+    /// A number, at least the first and below the second one.
     Number(u64, u64),
-    /// A number of 64 bits that may have a `-`.
+    /// A signed 64-bit number.
     Signed,
     /// A frame rate.
     FrameRate,
-    /// A list of codes.
+    /// A list of codecs.
     Codes,
     /// A language.
     Language,
-    /// A range of bytes.
+    /// A byte range.
     Range,
 }
 
 impl Value {
-    /// Whether a text is that.
+    /// Whether a text has this type.
     #[tactic(auto, unfolding(crate::specs::Values::is_value))]
     pub fn accepts(self, text: &str) -> bool
         ensures { result ≡ is_value self text.now }
@@ -57,7 +57,8 @@ impl Value {
     }
 }
 
-/// Whether a text is a number from `least` on and below `bound`. A number of few digits isn't added up.
+/// Whether a text is a number, at least `least` and below `bound`. A number of few digits isn't evaluated where all
+/// such numbers are within the bounds.
 fn is_number(text: &str, least: u64, bound: u64) -> bool
     ensures { result ≡ is_some (number_between least bound text.now) }
 {

@@ -1,4 +1,4 @@
-// What a pass looks for at one element.
+// What a pass checks at one element.
 ghost use Rattle.std.specs.Prelude.{◌≡◌, ◌||◌, List, [], Some};
 ghost use Rattle.std.specs.List.{list_any};
 ghost use Rattle.bridge_io.specs.Firsts.{first_fault};
@@ -19,16 +19,16 @@ use crate::parent::Parent;
 use crate::siblings::Siblings;
 use mpd_tree::{Attr, Node};
 
-/// What a pass looks for.
+/// What a pass checks.
 #[derive(Clone, Copy)]
 pub(crate) enum Pass {
     Features,
     Values(Addressing),
-    /// Both at each element, of an MPD of plain segments.
+    /// Both at each element, for an MPD without SegmentBase.
     Both,
 }
 
-/// An element where it stands: in a parent behind others; the root stands in none.
+/// An element with its context: its parent and its earlier siblings; the root has no parent.
 #[derive(Clone, Copy)]
 pub(crate) struct Visit<'a, 'b> {
     pub(crate) node: Node<'a>,
@@ -50,7 +50,7 @@ impl Pass {
 }
 
 impl<'a, 'b> Visit<'a, 'b> {
-    /// Looks at the element itself and its attributes.
+    /// Checks the element itself and its attributes.
     #[tactic(auto, unfolding(crate::specs::Passes::told_by))]
     pub(crate) fn check(&self, pass: Pass) -> Result<(), RuleFault>
         ensures { (before : List Head) → IsBehind self.now.siblings.now self.now.dynamic before
@@ -77,7 +77,7 @@ impl<'a, 'b> Visit<'a, 'b> {
         }
     }
 
-    /// The feature that the element itself is.
+    /// The feature of the element itself.
     fn feature(&self) -> Option<Feature>
         ensures { (before : List Head) → IsBehind self.now.siblings.now self.now.dynamic before →
             let visit = visit_shown self.now before in
@@ -175,7 +175,7 @@ impl<'a, 'b> Visit<'a, 'b> {
         }
     }
 
-    /// Whether it lacks something that it needs.
+    /// Whether something required is missing.
     fn is_incomplete(&self, listed: Listed) -> bool
         ensures { let visit = visit_shown self.now [] in
             result ≡ (list_any (refusals.lacks visit.head) (refusals.required_of (Some listed) visit.dynamic)
@@ -202,7 +202,7 @@ impl<'a, 'b> Visit<'a, 'b> {
         value_named(self.node, name).is_none()
     }
 
-    /// Whether it is a Representation without a media type, its own or its set's.
+    /// Whether it is a Representation without a media type, its own or its AdaptationSet's.
     fn has_no_type(&self) -> bool
         ensures { let visit = visit_shown self.now [] in result ≡ refusals.has_no_type visit.listed visit.parent visit.head }
     {

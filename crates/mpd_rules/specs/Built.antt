@@ -1,4 +1,4 @@
--- Representations and Periods one by one, as they are put together from above.
+-- Representations and Periods one by one, as they are merged from the levels above.
 use Rattle.std.specs.Prelude.{ℕ, ◌+◌, Bool, List, [], ◌∷◌, ◌++◌, map, flat_map, Option, Some}
 use Rattle.bridge_io.specs.declared.place.Place.{Place}
 use Rattle.mpd_tree.specs.Trees.{Element}
@@ -8,7 +8,7 @@ use Rattle.mpd_rules.specs.{declared.periods.Bounds.Bounds, declared.rows.TrackR
 use Rattle.mpd_rules.specs.{Kept.{representations_of, sets_of}, Readings.id_of, Rules.second_told}
 use Rattle.mpd_rules.specs.Typed.{bases_below, common_of, period_with, track_in, track_with}
 
--- ---- what rows show
+-- ---- the values of rows
 
 abbrev pub track_shown : {X S : Type 0} → (Tables → X → S) → Tables → TrackRow X → TrackRow (Option S)
 track_shown shown tables track = track_with (λ x. Some (shown tables x)) track
@@ -22,7 +22,7 @@ period_shown shown tables period = period_with (λ x. Some (shown tables x)) per
 abbrev pub periods_shown : {X S : Type 0} → (Tables → X → S) → Tables → List (PeriodRow X) → List (PeriodRow (Option S))
 periods_shown shown tables periods = map (period_shown shown tables) periods
 
--- ---- what is refused and told below levels that stand above
+-- ---- errors and values below the levels above
 
 abbrev pub refused_in : {S : Type 0} → (Place → Option S → List RuleFault) → (List Element → Option S) → (above : List Element) → Element
     → List RuleFault

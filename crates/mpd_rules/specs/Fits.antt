@@ -1,4 +1,4 @@
--- Values within the bounds that each attribute has: reading with its bound gives what reading without one gives.
+-- Values within the bounds of each attribute: reading with the bound gives the same as reading without it.
 use Rattle.std.specs.{Prelude.{◌≡◌, ℕ, List, codes}, List.All}
 use Rattle.mpd_tree.specs.Trees.{Head, Element}
 use Rattle.mpd_levels.specs.{Fits.FitsLevel, Readings.number_named}
@@ -6,14 +6,14 @@ use Rattle.mpd_rules.specs.Kept.{periods_of, representations_of, sets_of}
 use Rattle.mpd_rules.specs.Readings.{duration_named, duration_within_named, frame_rate_named, frame_rate_within_named}
 use Rattle.mpd_rules.specs.Readings.{number_within_named}
 
--- an attribute that isn't there fits too
+-- a missing attribute fits, too
 abbrev pub FitsDuration : List ℕ → Head → Type 0
 FitsDuration name head = duration_within_named name head ≡ duration_named name head
 
 abbrev pub FitsNumber : List ℕ → Head → Type 0
 FitsNumber name head = number_within_named name head ≡ number_named name head
 
--- what an AdaptationSet and its Representations may both say
+-- what an AdaptationSet and its Representations may both have
 pub record FitsCommon (head : Head) : Type 0 where
   pub width : FitsNumber (codes "width") head
   pub height : FitsNumber (codes "height") head

@@ -1,5 +1,4 @@
--- An MPD's values, the segments of each Representation told by a row of which the keys stand for timelines and lists in
--- tables.
+-- An MPD's values, with the segments of each Representation as a row whose keys refer to timelines and lists in tables.
 use Rattle.std.specs.Prelude.{ℕ, List, map}
 use Rattle.mpd_levels.specs.declared.tables.Tables.{Tables}
 use Rattle.mpd_rules.specs.{declared.facts.Facts.Facts, declared.rows.PeriodRow.PeriodRow, Typed.{TypedMpd, period_with}}

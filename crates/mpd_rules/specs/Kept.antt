@@ -1,4 +1,4 @@
--- The Periods, sets and Representations that are kept, in document order, and what is left out.
+-- The kept Periods, AdaptationSets and Representations, in document order, and what is dropped.
 use Rattle.mpd_profile.specs.declared.listed.Listed.TheVariants as listed
 use Rattle.std.specs.Prelude.{ℕ, ◌+◌, ◌&&◌, not, Bool, List, [], ◌∷◌, ◌++◌, map, filter, sum_by, count_by, codes, Some}
 use Rattle.mpd_tree.specs.{Trees.{Head, Element}, Views.side_by_side}
@@ -27,9 +27,9 @@ sets_of period = kept_children listed.AdaptationSet (codes "AdaptationSet") peri
 abbrev pub representations_of : Element → List Element
 representations_of set = kept_children listed.Representation (codes "Representation") set
 
--- ---- Representations where they stand
+-- ---- Representations with their context
 
--- a Representation in its Period and its set, which is the so many-th one that is kept there
+-- a Representation in its Period and its AdaptationSet, with the latter's index among the kept ones
 pub record Path : Type 0 where
   pub mpd : Element
   pub period : Element
@@ -58,7 +58,7 @@ paths_in mpd period place (set ∷ sets) = map (path_in mpd period set place) (r
 abbrev pub paths_of : (mpd period : Element) → List Path
 paths_of mpd period = paths_in mpd period 0 (sets_of period)
 
--- ---- what is left out: each set once, and each Representation of a kept set once
+-- ---- what is dropped: each AdaptationSet once, and each Representation of a kept AdaptationSet once
 
 abbrev pub left_in_set : Element → ℕ
 left_in_set set = left_children listed.Representation (codes "Representation") set

@@ -8,7 +8,7 @@ use Rattle.mpd_rules.specs.{declared.rows.PeriodRow.PeriodRow, Rules.typed_mpd_o
 
 -- ---- the ids of Periods (ISO/IEC 23009-1, 5.3.2.2)
 
--- none of some ids stands twice
+-- no id is repeated
 abbrev pub are_once : List (List ℕ) → Bool
 are_once [] = true
 are_once (id ∷ ids) = not (list_any (bytes_eq id) ids) && are_once ids
@@ -25,7 +25,7 @@ abbrev pub PeriodIdsDiffer : Type 0
 PeriodIdsDiffer = (tree : Element) (mpd : TypedMpd (Option Segments)) → typed_mpd_of tree ≡ Ok mpd → mpd.facts.live ≡ true
     → HaveOwnIds mpd.periods
 
--- ---- when an MPD's presentation begins to be available (ISO/IEC 23009-1, 5.3.1.2)
+-- ---- the start of an MPD's availability (ISO/IEC 23009-1, 5.3.1.2)
 
 abbrev pub StartsAreReadable : Type 0
 StartsAreReadable = (tree : Element) (mpd : TypedMpd (Option Segments)) → typed_mpd_of tree ≡ Ok mpd

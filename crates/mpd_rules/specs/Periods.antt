@@ -7,7 +7,7 @@ use Rattle.mpd_profile.specs.{declared.fault.RuleFault.RuleFault, declared.fault
 use Rattle.mpd_profile.specs.Heads.{is_dynamic, or_else}
 use Rattle.mpd_rules.specs.{declared.periods.Bounds.Bounds, Kept.periods_of, Readings.duration_named}
 
--- ---- what Periods say, in nanoseconds
+-- ---- the attributes of Periods, in nanoseconds
 
 abbrev pub start_said : Element → Option ℕ
 start_said period = duration_named (codes "start") period.head
@@ -17,7 +17,7 @@ sum_of (Some a) (Some b) = Some (a + b)
 sum_of (Some a) None = None
 sum_of None b = None
 
--- the end of a Period that has lasted as long as it says
+-- the end of a Period by its start and its `@duration`
 abbrev pub end_said : (start : Option ℕ) → Element → Option ℕ
 end_said start period = sum_of start (duration_named (codes "duration") period.head)
 
@@ -27,13 +27,13 @@ pub record Said : Type 0 where
   pub start : Option ℕ
   pub end : Option ℕ
 
--- A Period ends where the next one begins, which says so or follows it; the last one when it has lasted as long as it says,
--- otherwise with the MPD.
+-- A Period ends where the next one begins, by that one's `@start` or by its own `@duration`; the last one ends by its
+-- `@duration`, otherwise with the MPD.
 abbrev pub end_of : (total after : Option ℕ) → List Element → Option ℕ
 end_of total after [] = or_else after total
 end_of total after (next ∷ later) = or_else (start_said next) after
 
--- A Period begins where it says, otherwise when the former one has lasted as long as that says, which is `default`.
+-- A Period begins at its `@start`, otherwise at `default`: the start of the previous one plus that one's `@duration`.
 abbrev pub start_of : (default : Option ℕ) → Element → Option ℕ
 start_of default period = or_else (start_said period) default
 
@@ -49,7 +49,7 @@ bounds_from total default [] = []
 bounds_from total default (period ∷ later) =
     said_of total default period later ∷ bounds_from total (end_said (start_of default period) period) later
 
--- the first Period of a static MPD that says nothing begins at 0
+-- the default start of the first Period: 0 in a static MPD
 abbrev pub first_start : Head → Option ℕ
 first_start mpd = if is_dynamic mpd then None else Some 0
 
@@ -74,7 +74,7 @@ timed_of said = record { period = said.period; bounds = bounds_of said }
 abbrev pub timed_periods : Element → List Timed
 timed_periods mpd = map timed_of (period_bounds mpd)
 
--- ---- refusals
+-- ---- errors
 
 -- a time that doesn't fit, in nanoseconds
 abbrev pub is_late : ℕ → Bool
@@ -106,11 +106,11 @@ period_refusals mpd = order_told None (period_bounds mpd)
 
 -- ---- one Period after the other
 
--- the start of one, which is to begin after the former one
+-- the start of one, which has to begin after the previous one
 abbrev pub judged_start : Place → (former start : Option ℕ) → Result ℕ RuleFault
 judged_start place former None = Err (NoStart place)
 judged_start place former (Some start) = if is_late start || is_not_after former start then Err (PeriodOrder place) else Ok start
 
--- the end of one, which is to end after its own start
+-- the end of one, which has to end after its own start
 abbrev pub judged_end : Place → ℕ → Option ℕ → Result (Option ℕ) RuleFault
 judged_end place start end = if is_bad_end start end then Err (PeriodOrder place) else Ok end

@@ -1,4 +1,4 @@
--- What attributes denote. Without any bound on their size where the name says nothing else.
+-- Values of attributes, without a bound on their size unless the name says otherwise.
 use Rattle.std.specs.Prelude.{ℕ, ℤ, ◌==◌, ◌^◌, List, codes, if◌then◌else◌, Option, Some, None, option_map, option_and_then}
 use Rattle.std.specs.Result.{result_ok}
 use Rattle.iso_time.specs.{Duration.{DurationParts, duration_of, months_of, nanos_of, parts_of}, Instant.instant_of}
@@ -15,14 +15,14 @@ nanos_unless_months p = if months_of p == 0 then Some (nanos_of p) else None
 abbrev pub duration_in : List ℕ → Option ℕ
 duration_in text = option_and_then nanos_unless_months (parts_of (trimmed Space text))
 
--- one below 10^19 nanoseconds
+-- a duration below 10^19 nanoseconds
 abbrev pub duration_within : List ℕ → Option ℕ
 duration_within text = result_ok (duration_of (trimmed Space text))
 
 abbrev pub instant_in : List ℕ → Option ℤ
 instant_in text = result_ok (instant_of (trimmed Space text))
 
--- ---- of a tag
+-- ---- attributes of a tag
 
 abbrev pub duration_named : List ℕ → Head → Option ℕ
 duration_named name head = option_and_then duration_in (value_named name head)
@@ -33,7 +33,7 @@ duration_within_named name head = option_and_then duration_within (value_named n
 abbrev pub instant_named : List ℕ → Head → Option ℤ
 instant_named name head = option_and_then instant_in (value_named name head)
 
--- one below 2^32
+-- a number below 2^32
 abbrev pub number_within_named : List ℕ → Head → Option ℕ
 number_within_named name head = option_and_then (number_between 0 (2 ^ 32)) (value_named name head)
 

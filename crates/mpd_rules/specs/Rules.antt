@@ -1,4 +1,4 @@
--- An MPD's values, or the first refusal.
+-- An MPD's values, or the first error.
 use Rattle.mpd_profile.specs.declared.listed.Addressing.TheVariants as addressing
 use Rattle.std.specs.Prelude.{ℕ, ◌+◌, ◌==◌, ◌||◌, not, Bool, true, false, List, [], ◌∷◌, ◌++◌, flat_map, if◌then◌else◌, Option, Some}
 use Rattle.std.specs.{Prelude.{None, Result, Ok, Err}, List.list_any}
@@ -14,15 +14,15 @@ use Rattle.mpd_rules.specs.{Kept.{Path, levels_of, paths_of, periods_of}, Period
 
 -- ---- Representations, in document order
 
--- a Period behind another one, where that isn't built
+-- a Period after another one, where that isn't supported
 abbrev pub second_told : (many : Bool) → (place : ℕ) → (period : Element) → List RuleFault
 second_told many place period = if many || (place == 0) then [] else Unsupported period.head.place ∷ []
 
--- a dynamic MPD, where that isn't built
+-- a dynamic MPD, where that isn't supported
 abbrev pub static_told : (many : Bool) → (mpd : Element) → List RuleFault
 static_told many mpd = if many || not (is_dynamic mpd.head) then [] else Unsupported mpd.head.place ∷ []
 
--- the first of these Periods is the so many-th one
+-- `place` is the index of the first of these Periods
 abbrev pub paths_told : (many : Bool) → (Path → List RuleFault) → (mpd : Element) → (place : ℕ) → List Element → List RuleFault
 paths_told many told mpd place [] = []
 paths_told many told mpd place (period ∷ periods) =
@@ -55,11 +55,11 @@ segments_refused place (Some segments) = if is_incomplete segments then Missing 
 abbrev pub refused_at : {X : Type 0} → (Place → Option X → List RuleFault) → (List Element → Option X) → Path → List RuleFault
 refused_at refused told path = refused path.representation.head.place (told (levels_of path))
 
--- what an MPD says, without bounds and refusals
+-- an MPD's values, without bounds and errors
 unfoldable pub dash_values : Element → TypedMpd (Option Segments)
 dash_values mpd = values_with segments_of mpd
 
--- behind those of features and values, each pass in document order
+-- after those of features and values, each pass in document order
 abbrev pub refusals_behind : {X : Type 0} → (many : Bool) → (Place → Option X → List RuleFault) → (List Element → Option X) → Element
     → List RuleFault
 refusals_behind many refused told mpd =
@@ -67,11 +67,11 @@ refusals_behind many refused told mpd =
     ++ (static_told many mpd
     ++ (paths_told many (refused_at refused told) mpd 0 (periods_of mpd) ++ silence_in mpd.head.place (values_with told mpd).periods))
 
--- all refusals of an MPD, pass by pass
+-- all errors of an MPD, pass by pass
 unfoldable pub all_refusals : Element → List RuleFault
 all_refusals mpd = refusals_of addressing.Segments mpd ++ refusals_behind true segments_refused segments_of mpd
 
--- ---- files with an index inside: static MPDs of one Period
+-- ---- files with a `sidx`: static MPDs of one Period
 
 abbrev pub index_refused : Place → Option IndexRow → List RuleFault
 index_refused place None = Unsupported place ∷ []
@@ -83,7 +83,7 @@ index_values mpd = values_with index_of mpd
 unfoldable pub all_index_refusals : Element → List RuleFault
 all_index_refusals mpd = refusals_of addressing.Index mpd ++ refusals_behind false index_refused index_of mpd
 
--- ---- the first refusal, otherwise the values
+-- ---- the first error, otherwise the values
 
 abbrev pub unless_refused : {X : Type 0} → List RuleFault → X → Result X RuleFault
 unless_refused [] value = Ok value

@@ -1,4 +1,4 @@
--- What an MPD says: its values as they hold for each Representation, without any bound and without any refusal.
+-- The effective values of an MPD for each Representation, without bounds and without errors.
 use Rattle.std.specs.Prelude.{ℕ, List, [], ◌∷◌, ◌++◌, map, codes, Option, Some, None, unwrap_or}
 use Rattle.bridge_io.specs.{declared.media.Kind.Kind, declared.media.Kind.TheVariants.Video, declared.media.Size.Size}
 use Rattle.mpd_values.specs.MediaTypes.{kind_of}
@@ -9,7 +9,7 @@ use Rattle.mpd_rules.specs.{declared.facts.Facts.Facts, declared.common.Common.C
 use Rattle.mpd_rules.specs.{declared.rows.TrackRow.TrackRow, declared.rows.PeriodRow.PeriodRow, Kept.{Path, left_out_in, paths_of}}
 use Rattle.mpd_rules.specs.{Periods.{Timed, timed_periods}, Readings.{base_reference, duration_named, frame_rate_named, instant_named}}
 
--- the values of an MPD; the segments of a Representation are told by an X
+-- the values of an MPD; an X holds the segment values of a Representation
 pub record TypedMpd (X : Type 0) : Type 0 where
   pub facts : Facts
   pub left_out : ℕ
@@ -30,26 +30,26 @@ abbrev pub kind_by : (common : Option Kind) → (own : Option (List ℕ)) → Op
 kind_by common None = common
 kind_by common (Some type) = kind_of type
 
--- the kind of an element's media type, and where it says none that of its set's
+-- the kind of an element's media type, and where it has none, that of its AdaptationSet's
 abbrev pub kind_in : (common : Option Kind) → Element → Option Kind
 kind_in common e = kind_by common (value_named (codes "mimeType") e.head)
 
--- width and height, where both are there
+-- width and height, where both are present
 abbrev pub both_there : Option ℕ → Option ℕ → Option Size
 both_there (Some width) (Some height) = Some (record { width = width; height = height })
 both_there (Some width) None = None
 both_there None height = None
 
--- what there is, at the end of a list
+-- an optional member appended to a list
 abbrev pub and_one : {X : Type 0} → List X → Option X → List X
 and_one xs None = xs
 and_one xs (Some x) = xs ++ x ∷ []
 
--- the references of an element and those above it: its first BaseURL behind them
+-- the base references of an element: those above it, followed by its first BaseURL
 abbrev pub bases_below : List (List ℕ) → Element → List (List ℕ)
 bases_below above e = and_one above (base_reference e)
 
--- what a set says for its Representations, above which these references stand
+-- what Representations inherit from their AdaptationSet; `above` are the base references above it
 abbrev pub common_of : (place : ℕ) → (above : List (List ℕ)) → Element → Common
 common_of place above set = record {
   place = place;
@@ -69,8 +69,7 @@ abbrev pub size_in : Common → Element → Option Size
 size_in common e =
     both_there (or_else (number_named (codes "width") e.head) common.width) (or_else (number_named (codes "height") e.head) common.height)
 
--- What a Representation says itself holds, otherwise what its set says (5.3.7.1). Each has a media type where nothing is
--- refused.
+-- The Representation's own value, otherwise that of its AdaptationSet (5.3.7.1). In a valid MPD each has a media type.
 abbrev pub description_in : Common → Element → Description
 description_in common e = record {
   kind = unwrap_or (kind_in common.kind e) Video;
@@ -91,7 +90,7 @@ common_at path = common_of path.place (bases_below (bases_below [] path.mpd) pat
 abbrev pub track_in : {X : Type 0} → (List Element → X) → Common → (above : List Element) → Element → TrackRow X
 track_in told common above e = record { description = description_in common e; segments = told (e ∷ above) }
 
--- its segments are told by what its levels say
+-- its segment values come from its levels
 abbrev pub track_of : {X : Type 0} → (List Element → X) → Path → TrackRow X
 track_of told path = track_in told (common_at path) (path.set ∷ path.period ∷ []) path.representation
 
@@ -112,7 +111,7 @@ values_with told mpd = record {
   periods = map (period_of told mpd) (timed_periods mpd);
 }
 
--- ---- the same with other words for segments
+-- ---- the same with other types for segments
 
 abbrev pub track_with : {X Y : Type 0} → (X → Y) → TrackRow X → TrackRow Y
 track_with f track = record { description = track.description; segments = f track.segments }

@@ -1,4 +1,4 @@
--- What the rows of an MPD show.
+-- The values of the rows of an MPD.
 use Rattle.std.specs.Prelude.{ℕ, List, map, Option, Some}
 use Rattle.mpd_levels.specs.{declared.addressing.Addressing.Addressing, declared.addressing.SegmentRow.SegmentRow}
 use Rattle.mpd_levels.specs.{declared.indexed.IndexRow.IndexRow, declared.tables.Tables.Tables, Segments.Segments, Shown.segments_shown}
@@ -15,11 +15,11 @@ period_in view = period_with (keyed view.tables.now) view.row.now
 abbrev pub track_in : {X : Type 0} → TrackView X → TrackRow (Keyed X)
 track_in view = track_with (keyed view.tables.now) view.row.now
 
--- the tables that the keys of a walk's Periods are of
+-- the tables of the keys of an iterator's Periods
 abbrev pub tables_under : {X : Type 0} → PeriodWalk X → Tables
 tables_under walk = walk.tables.now
 
--- what a walk has before it
+-- what an iterator has left
 abbrev pub periods_left : {X : Type 0} → PeriodWalk X → List (PeriodRow (Keyed X))
 periods_left walk = map (period_with (keyed walk.tables.now)) walk.rest.now
 
@@ -29,9 +29,9 @@ tracks_left walk = map (track_with (keyed walk.tables.now)) walk.rest.now
 abbrev pub bases_left : BaseWalk → List (List ℕ)
 bases_left walk = walk.rest.now
 
--- ---- how segments are told
+-- ---- how segments are addressed
 
--- the tables that a view's keys are of
+-- the tables of a view's keys
 abbrev pub tables_of : Addressing → Tables
 tables_of view = view.tables.now
 

@@ -1,4 +1,4 @@
-// The values of an MPD, put together.
+// Putting together the values of an MPD.
 ghost use Rattle.std.specs.Prelude.{◌≡◌, ◌+◌, ◌∷◌, ◌++◌, Bool, IfOk, List, OnOk, flat_map, length, map, sum_by};
 ghost use Rattle.std.specs.List.{All};
 ghost use Rattle.bridge_io.specs.Answer.{Gives};
@@ -26,15 +26,15 @@ use mpd_profile::{Listed, RuleFault};
 use mpd_tree::Node;
 use std::alloc::Global;
 
-/// What grows while an MPD's values are put together.
+/// The state while an MPD's values are put together.
 #[derive(Drop)]
 pub(crate) struct Building {
     pub(crate) tables: Tables,
-    /// Where each set or Representation stands that is left out.
+    /// The positions of dropped AdaptationSets and Representations.
     pub(crate) left_out: Sequence<Place>,
 }
 
-/// What a Period says for its sets.
+/// What AdaptationSets inherit from their Period.
 #[derive(Drop)]
 struct Above {
     level: Level,
@@ -43,7 +43,7 @@ struct Above {
 }
 
 impl Building {
-    /// A Representation of a set.
+    /// A Representation of an AdaptationSet.
     fn track<X: FromLevels>(
         &mut self,
         alloc: Global,
@@ -69,7 +69,7 @@ impl Building {
         })
     }
 
-    /// Adds the Representations of a set behind the others.
+    /// Adds the Representations of an AdaptationSet after the others.
     fn add_tracks<X: FromLevels>(
         &mut self,
         alloc: Global,
@@ -95,7 +95,7 @@ impl Building {
         Ok(())
     }
 
-    /// Adds the Representations of a set that is the so many-th one of its Period.
+    /// Adds the Representations of an AdaptationSet, given its index in its Period.
     fn add_set<X: FromLevels>(
         &mut self,
         alloc: Global,
@@ -126,7 +126,7 @@ impl Building {
         self.add_tracks(alloc, tracks, &representations, &common, &level)
     }
 
-    /// The Representations of the sets of a Period.
+    /// The Representations of the AdaptationSets of a Period.
     fn tracks<X: FromLevels>(
         &mut self,
         alloc: Global,
@@ -151,7 +151,7 @@ impl Building {
         Ok(tracks)
     }
 
-    /// A Period of these bounds, below the references of the MPD.
+    /// A Period with these bounds, below the BaseURLs of the MPD.
     fn period<X: FromLevels>(
         &mut self,
         alloc: Global,
@@ -185,7 +185,7 @@ impl Building {
         })
     }
 
-    /// The Periods of these bounds. Those behind the first one are refused unless there may be many.
+    /// The Periods with these bounds. Those after the first one are rejected unless `many` are allowed.
     pub(crate) fn periods<X: FromLevels>(
         &mut self,
         alloc: Global,
@@ -212,7 +212,7 @@ impl Building {
     }
 }
 
-/// Refuses a Period behind the first one, unless there may be many.
+/// Rejects a Period after the first one, unless `many` are allowed.
 fn check_second(period: Node<'_>, place: usize, many: bool) -> Result<(), RuleFault>
     ensures { result ≡ unless_refused (second_told many place (element_of period.entry)) tt }
 {

@@ -1,4 +1,4 @@
-// The Periods, sets and Representations that are kept.
+// The kept Periods, AdaptationSets and Representations.
 ghost use Rattle.std.specs.Prelude.{◌≡◌, ◌+◌, IfOk, OnOk, length, map};
 ghost use Rattle.mpd_tree.specs.Nodes.{element_of};
 ghost use Rattle.mpd_rules.specs.Kept as spec;
@@ -8,7 +8,7 @@ use mpd_profile::{Listed, is_left_out, value_named};
 use mpd_tree::Node;
 use std::alloc::Global;
 
-/// The children of a name that are kept, which are read as `listed`. Each one that is left out is added to the others.
+/// The kept children of a name, which are read as `listed`. The position of each dropped one is added to `left_out`.
 pub(crate) fn kept_children<'a>(
     alloc: Global,
     parent: Node<'a>,

@@ -1,4 +1,4 @@
-// What a set says for its Representations.
+// What Representations inherit from their AdaptationSet.
 ghost use Rattle.std.specs.Prelude.{◌≡◌, IfOk};
 ghost use Rattle.mpd_tree.specs.Nodes.{element_of};
 ghost use Rattle.mpd_rules.specs.Fits.{FitsCommon, FitsTrack};
@@ -14,10 +14,10 @@ use mpd_tree::Node;
 use mpd_values::kind_of;
 use std::alloc::Global;
 
-/// What a set says for its Representations (ISO/IEC 23009-1, 5.3.7.1).
+/// What Representations inherit from their AdaptationSet (ISO/IEC 23009-1, 5.3.7.1).
 #[derive(Drop)]
 pub(crate) struct Common {
-    /// Its place among the Period's kept sets.
+    /// Its index among the Period's kept AdaptationSets.
     pub(crate) place: usize,
     pub(crate) kind: Option<Kind>,
     pub(crate) language: Option<SharedText>,
@@ -25,7 +25,7 @@ pub(crate) struct Common {
     pub(crate) width: Option<u32>,
     pub(crate) height: Option<u32>,
     pub(crate) frame_rate: Option<FrameRate>,
-    /// The first BaseURL of each level that has one, from the MPD down to the set.
+    /// The first BaseURL of each level that has one, from the MPD down to the AdaptationSet.
     pub(crate) bases: Sequence<SharedText>,
 }
 
@@ -54,7 +54,7 @@ impl Common {
         })
     }
 
-    /// What a Representation of the set says together with it.
+    /// The values of a Representation, merged with its AdaptationSet.
     pub(crate) fn describe(
         &self,
         alloc: Global,
@@ -104,7 +104,7 @@ impl Common {
     }
 }
 
-/// The kind of an element's media type, and where it says none the other one.
+/// The kind of an element's media type, and where it has none, the other one.
 fn kind_or(node: Node<'_>, other: Option<Kind>) -> Option<Kind>
     ensures { result ≡ spec.kind_in other (element_of node.entry) }
 {
@@ -114,7 +114,7 @@ fn kind_or(node: Node<'_>, other: Option<Kind>) -> Option<Kind>
     }
 }
 
-/// The references of an element and those above it: its first BaseURL behind them.
+/// The base references of an element: those above it, followed by its first BaseURL.
 pub(crate) fn bases_below(
     alloc: Global,
     above: &Sequence<SharedText>,
@@ -129,7 +129,7 @@ pub(crate) fn bases_below(
     Ok(bases)
 }
 
-/// The same texts once more.
+/// The same texts again.
 fn share_all(alloc: Global, texts: &[SharedText]) -> Result<Sequence<SharedText>, NoMemory>
     ensures { IfOk result (λ shared. shared ≡ texts.now) }
 {

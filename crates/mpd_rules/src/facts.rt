@@ -1,4 +1,4 @@
-// What an MPD says of itself.
+// The attributes of the MPD element.
 ghost use Rattle.std.specs.Prelude.{◌≡◌};
 ghost use Rattle.mpd_tree.specs.Nodes.{element_of};
 ghost use Rattle.mpd_rules.specs.Fits.{FitsMpd};
@@ -10,7 +10,7 @@ use iso_time::Instant;
 use mpd_profile::is_dynamic;
 use mpd_tree::Node;
 
-/// What an MPD says of itself (ISO/IEC 23009-1, 5.3.1.2).
+/// The attributes of the MPD element (ISO/IEC 23009-1, 5.3.1.2).
 #[derive(Clone, Copy)]
 pub(crate) struct Facts {
     pub(crate) live: bool,

@@ -1,11 +1,11 @@
-// Files with an index inside.
+// Files with a `sidx`.
 ghost use Rattle.std.specs.Prelude.{◌≡◌, IfSome, None, Some, if◌then◌else◌, option_map};
 ghost use Rattle.mpd_rules.specs.Ranges.{IsSomeBytes};
 
 use mpd_levels::{IndexRow, InitView};
 use url_parts::Range;
 
-/// Where a file's index lies, and its initialization part (ISO/IEC 23009-1, 5.3.9.2).
+/// The byte ranges of a file's `sidx` and init segment (ISO/IEC 23009-1, 5.3.9.2).
 #[derive(Drop)]
 pub struct FileIndex {
     range: Range,
@@ -18,7 +18,7 @@ impl FileIndex {
     ghost use Rattle.mpd_levels.specs.Indexed.{lacks_index};
     ghost use Rattle.mpd_levels.specs.Shown.{initialization_shown};
 
-    /// There is none exactly where something lacks.
+    /// `None` exactly where something is missing.
     pub(crate) fn of(row: IndexRow) -> Option<FileIndex>
         requires { IfSome row.range IsSomeBytes }
         ensures { option_map (λ index. index.row) result ≡ (if lacks_index row then None else Some row) }
@@ -30,7 +30,7 @@ impl FileIndex {
         Some(FileIndex { range, row })
     }
 
-    /// The bytes of the index.
+    /// The byte range of the `sidx`.
     pub(crate) fn range(&self) -> Range
         ensures told { self.now.row.range ≡ Some result }
         ensures bytes { IsSomeBytes result }

@@ -1,4 +1,4 @@
-// Frame rates as they are kept.
+// Stored frame rates.
 ghost use Rattle.std.specs.Prelude.{◌≡◌};
 ghost use Rattle.mpd_profile.specs.Heads.{or_else};
 
@@ -33,7 +33,7 @@ impl FrameRate {
     }
 }
 
-/// A frame rate, and where there is none the other one.
+/// A frame rate, and where there is none, the other one.
 pub(crate) fn rate_over(own: Option<FrameRate>, common: &Option<FrameRate>) -> Option<FrameRate>
     ensures { result ≡ or_else own common.now }
 {

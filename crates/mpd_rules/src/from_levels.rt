@@ -1,4 +1,4 @@
-// How the segments of a Representation are told.
+// How the segments of a Representation are addressed.
 ghost use Rattle.std.specs.Prelude.{◌≡◌, IfOk, List, Option, Some};
 ghost use Rattle.bridge_io.specs.Answer.{Gives};
 ghost use Rattle.bridge_io.specs.Firsts.{first_fault};
@@ -18,20 +18,20 @@ use bridge_io::Place;
 use mpd_levels::{Level, SegmentRow};
 use mpd_profile::RuleFault;
 
-/// A row that tells the segments of a Representation, of what its levels say.
+/// A row with the segment values of a Representation, by its levels.
 pub(crate) trait FromLevels: Drop {
-    /// What a row shows.
+    /// The value of a row.
     ghost Shown: { Type 0 };
 
     ghost shown: { Tables → Self → Shown };
 
-    /// What levels tell, from the lowest one on.
+    /// The value by the levels, from the lowest one on.
     ghost of: { List Element → Option Shown };
 
-    /// What refuses a Representation at a place.
+    /// The errors of a Representation at a position.
     ghost refused: { Place → Option Shown → List RuleFault };
 
-    /// The row of a Representation that stands at a place, or why it is refused.
+    /// The row of a Representation at a position, or why it is rejected.
     fn told(level: &Level, place: Place) -> Result<Self, RuleFault>
         requires { (tables : Tables) × (levels : List Element) × Says tables level.now levels }
         ensures refused { (tables : Tables) (levels : List Element) → Says tables level.now levels

@@ -1,4 +1,4 @@
-//! The rules of an MPD: its values as they hold for each Representation, or the first refusal (ISO/IEC 23009-1, 5.3).
+//! The rules of an MPD: its effective values for each Representation, or the first error (ISO/IEC 23009-1, 5.3).
 #![tactic(auto)]
 
 mod build;
@@ -23,7 +23,7 @@ pub use passes::{rules, rules_indexed};
 pub use typed::TypedMpd;
 pub use view::{BaseWalk, PeriodWalk, RepWalk, TrackView, TypedPeriod};
 
-/// An MPD whose segments are told one by one.
+/// An MPD with SegmentTemplate or SegmentList.
 pub type Mpd = TypedMpd<SegmentRow>;
 
 /// A Period of it.
@@ -32,7 +32,7 @@ pub type PeriodView<'a> = TypedPeriod<'a, SegmentRow>;
 /// A Representation of it.
 pub type RepView<'a> = TrackView<'a, SegmentRow>;
 
-/// An MPD whose segments an index inside of each file tells.
+/// An MPD with SegmentBase, whose files have a `sidx`.
 pub type IndexedMpd = TypedMpd<FileIndex>;
 
 /// A Period of it.
@@ -41,7 +41,7 @@ pub type IndexedPeriod<'a> = TypedPeriod<'a, FileIndex>;
 /// The Periods of it, in order.
 pub type IndexedPeriodWalk<'a> = PeriodWalk<'a, FileIndex>;
 
-/// The Representations of a Period that are kept, in document order.
+/// The kept Representations of a Period, in document order.
 pub type IndexedWalk<'a> = RepWalk<'a, FileIndex>;
 
 /// A Representation of it.

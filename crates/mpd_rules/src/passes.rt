@@ -24,9 +24,9 @@ use mpd_profile::{Addressing, Listed, RuleFault, check, is_dynamic};
 use mpd_tree::{Node, Tree};
 use std::alloc::Global;
 
-/// The values of an MPD whose segments are told one by one, or the first refusal.
+/// The values of an MPD with SegmentTemplate or SegmentList, or the first error.
 ///
-/// `Memory` is answered only where memory is wanting.
+/// `Memory` is returned only where memory runs out.
 pub fn rules(alloc: Global, tree: &Tree) -> Result<TypedMpd<SegmentRow>, RuleFault>
     ensures { Gives segments_mpd refusal result (typed_mpd_of (root_of tree.now)) }
 {
@@ -34,10 +34,9 @@ pub fn rules(alloc: Global, tree: &Tree) -> Result<TypedMpd<SegmentRow>, RuleFau
     values(alloc, tree.root(), true)
 }
 
-/// The values of an MPD whose segments an index inside of each file tells, or the first refusal: it is static, and has one
-/// Period.
+/// The values of an MPD with SegmentBase, or the first error: the MPD has to be static, with one Period.
 ///
-/// `Memory` is answered only where memory is wanting.
+/// `Memory` is returned only where memory runs out.
 pub fn rules_indexed(alloc: Global, tree: &Tree) -> Result<TypedMpd<FileIndex>, RuleFault>
     ensures { Gives index_mpd refusal result (indexed_mpd_of (root_of tree.now)) }
 {
@@ -45,8 +44,8 @@ pub fn rules_indexed(alloc: Global, tree: &Tree) -> Result<TypedMpd<FileIndex>, 
     values(alloc, tree.root(), false)
 }
 
-/// The values of an MPD whose elements and attributes are all as they are to be, or the first Period or Representation
-/// that is refused. Unless there may be many, it is to be static and to have one Period.
+/// The values of an MPD whose elements and attributes are all valid, or the error of the first invalid Period or
+/// Representation. Unless `many` Periods are allowed, it has to be static with one Period.
 fn values<X: FromLevels>(alloc: Global, mpd: Node<'_>, many: bool) -> Result<TypedMpd<X>, RuleFault>
     requires { FitsMpd (element_of mpd) }
     ensures { Gives (mpd_shown X.shown) refusal result (unless_refused (refusals_behind many X.refused X.of (element_of mpd.entry))
@@ -67,7 +66,7 @@ fn values<X: FromLevels>(alloc: Global, mpd: Node<'_>, many: bool) -> Result<Typ
     Ok(TypedMpd::of(facts_of(mpd), left_out, tables, rows))
 }
 
-/// Refuses a dynamic MPD, unless there may be many Periods.
+/// Rejects a dynamic MPD, unless `many` Periods are allowed.
 fn check_static(mpd: Node<'_>, many: bool) -> Result<(), RuleFault>
     ensures { result ≡ unless_refused (static_told many (element_of mpd.entry)) tt }
 {
@@ -77,7 +76,7 @@ fn check_static(mpd: Node<'_>, many: bool) -> Result<(), RuleFault>
     Err(RuleFault::Unsupported(mpd.place()))
 }
 
-/// Looks for nothing to play: no Period, or one without video and audio.
+/// Rejects an MPD with no Period, or with one without video and audio.
 fn check_silence<X>(place: Place, periods: &[PeriodRow<X>]) -> Result<(), RuleFault>
     ensures { result ≡ unless_refused (silence_in place periods.now) tt }
 {

@@ -19,7 +19,7 @@ use std::alloc::Global;
 /// The first time that is too late, in nanoseconds.
 const LATE: u128 = 10_000_000_000_000_000_000;
 
-/// When a Period begins, and when it ends: an open one has no end.
+/// When a Period begins and ends; an open one has no end.
 #[derive(Clone, Copy)]
 pub(crate) struct Bounds {
     pub(crate) start: Nanos,
@@ -50,15 +50,15 @@ pub(crate) fn read_bounds(
     Ok(bounds)
 }
 
-/// The first Period of a static MPD that says nothing begins at 0.
+/// The default start of the first Period: 0 in a static MPD.
 fn first_start(mpd: Node<'_>) -> Option<u128>
     ensures { result ≡ spec.first_start (element_of mpd.entry).head }
 {
     if is_dynamic(mpd) { None } else { Some(0) }
 }
 
-/// The bounds of a Period, behind which the later ones stand, in an MPD of this end: the former one began then, and it
-/// begins at `default` if it says nothing. In nanoseconds.
+/// The bounds of a Period, in nanoseconds. `total` is the end of the MPD, `former` the start of the Period before it,
+/// `default` its start without `@start`, and `later` the Periods after it.
 fn one_bounds(
     total: Option<u128>,
     former: Option<u128>,

@@ -1,4 +1,4 @@
-// What attributes denote.
+// Values of attributes.
 ghost use Rattle.std.specs.Prelude.{◌≡◌, IfOk, option_map};
 ghost use Rattle.mpd_tree.specs.Nodes.{element_of};
 ghost use Rattle.mpd_profile.specs.Heads.{value_named};
@@ -42,7 +42,7 @@ pub(crate) fn frame_rate(node: Node<'_>) -> Option<FrameRate>
     Some(FrameRate::of(rate))
 }
 
-/// A text, to be shared by those that take it over.
+/// A text, shared by those that inherit it.
 pub(crate) fn text(
     alloc: Global,
     node: Node<'_>,

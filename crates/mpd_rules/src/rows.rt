@@ -1,14 +1,14 @@
-// Periods and Representations as they are kept.
+// Stored Periods and Representations.
 use crate::frame_rate::FrameRate;
 use crate::periods::Bounds;
 use bridge_io::{Kind, Place, Sequence, Size, Text};
 use mpd_levels::SharedText;
 
-/// What a Representation says together with the levels above it, but for its segments.
+/// The values of a Representation, merged with the levels above it, except its segments.
 #[derive(Drop)]
 pub(crate) struct Description {
     pub(crate) kind: Kind,
-    /// The place of its set among the Period's kept sets.
+    /// The index of its AdaptationSet among the Period's kept ones.
     pub(crate) set: usize,
     pub(crate) id: Text,
     /// In bits per second.
@@ -22,14 +22,14 @@ pub(crate) struct Description {
     pub(crate) place: Place,
 }
 
-/// A Representation that is kept. Its segments are told by an `X`.
+/// A kept Representation. An `X` holds its segment values.
 #[derive(Drop)]
 pub(crate) struct TrackRow<X> {
     pub(crate) description: Description,
     pub(crate) segments: X,
 }
 
-/// A Period, with its Representations that are kept.
+/// A Period, with its kept Representations.
 #[derive(Drop)]
 pub(crate) struct PeriodRow<X> {
     pub(crate) id: Option<Text>,

@@ -10,11 +10,11 @@ use iso_time::Instant;
 use mpd_levels::Tables;
 use std::marker::Model;
 
-/// The values of an MPD as they hold for each Representation that is kept. `X` is how their segments are told.
+/// The effective values of an MPD for each kept Representation. An `X` holds the segment values.
 #[derive(Drop)]
 pub struct TypedMpd<X> {
     facts: Facts,
-    // Where each set or Representation stands that is left out.
+    // The positions of dropped AdaptationSets and Representations.
     left_out: Sequence<Place>,
     tables: Tables,
     periods: Sequence<PeriodRow<X>>,
@@ -91,14 +91,14 @@ impl<X> TypedMpd<X> {
         self.facts.max_segment
     }
 
-    /// How many sets, and how many Representations of kept sets, are left out.
+    /// How many AdaptationSets, plus Representations of kept AdaptationSets, were dropped.
     pub fn left_out(&self) -> u64
         ensures { result ≡ self.now.values.left_out }
     {
         self.left_out.len() as u64
     }
 
-    /// The timelines and lists that the keys of its Representations stand for.
+    /// The timelines and lists that the keys of its Representations refer to.
     pub fn tables(&self) -> &Tables
         ensures { result.now ≡ self.now.tables }
     {

@@ -1,4 +1,4 @@
-// Periods and Representations as they are shown.
+// Views of Periods and Representations.
 ghost use Rattle.std.specs.Prelude.{◌≡◌, ◌+◌, ◌<◌, ◌≤◌, ◌^◌, Some, option_map};
 
 use crate::file_index::FileIndex;
@@ -8,7 +8,7 @@ use exact_time::Nanos;
 use mpd_levels::{Addressing, InitView, SegmentRow, SharedText, Tables};
 use url_parts::Range;
 
-/// The Periods of an MPD, in order.
+/// An iterator over the Periods of an MPD, in order.
 #[derive(Drop)]
 pub struct PeriodWalk<'a, X> {
     tables: &'a Tables,
@@ -22,21 +22,21 @@ pub struct TypedPeriod<'a, X> {
     row: &'a PeriodRow<X>,
 }
 
-/// The Representations of a Period that are kept, in document order.
+/// An iterator over the kept Representations of a Period, in document order.
 #[derive(Drop)]
 pub struct RepWalk<'a, X> {
     tables: &'a Tables,
     rest: &'a [TrackRow<X>],
 }
 
-/// A Representation that is kept.
+/// A kept Representation.
 #[derive(Drop)]
 pub struct TrackView<'a, X> {
     tables: &'a Tables,
     row: &'a TrackRow<X>,
 }
 
-/// The references of the BaseURLs that hold for a Representation, from the MPD down.
+/// An iterator over the effective BaseURL references of a Representation, from the MPD down.
 #[derive(Drop)]
 pub struct BaseWalk<'a> {
     rest: &'a [SharedText],
@@ -106,14 +106,14 @@ impl<'a, X> TypedPeriod<'a, X> {
         self.row.bounds.end
     }
 
-    /// Where its `<` stands.
+    /// The position of its `<`.
     pub fn place(&self) -> Place
         ensures { result ≡ (period_in self.now).place }
     {
         self.row.place
     }
 
-    /// The Representations that are kept, in document order.
+    /// The kept Representations, in document order.
     pub fn tracks(&self) -> RepWalk<'a, X>
         ensures { tracks_left result ≡ (period_in self.now).tracks }
     {
@@ -147,14 +147,14 @@ impl<'a, X> Iterator for RepWalk<'a, X> {
 impl<'a, X> TrackView<'a, X> {
     ghost use Rattle.mpd_rules.specs.Views.{bases_left, track_in};
 
-    /// What it holds, by its media type (ISO/IEC 23009-1, 5.3.7.2).
+    /// Its kind, by its media type (ISO/IEC 23009-1, 5.3.7.2).
     pub fn kind(&self) -> Kind
         ensures { result ≡ (track_in self.now).description.kind }
     {
         self.row.description.kind
     }
 
-    /// The place of its set among the Period's kept sets.
+    /// The index of its AdaptationSet among the Period's kept ones.
     pub fn set(&self) -> usize
         ensures { result ≡ (track_in self.now).description.set }
     {
@@ -175,21 +175,21 @@ impl<'a, X> TrackView<'a, X> {
         u64::from(self.row.description.bandwidth)
     }
 
-    /// The language of its set (ISO/IEC 23009-1, 5.3.3.2).
+    /// The language of its AdaptationSet (ISO/IEC 23009-1, 5.3.3.2).
     pub fn language(&self) -> Option<&'a str>
         ensures { option_map (λ text. text.now) result ≡ (track_in self.now).description.language }
     {
         text_of(&self.row.description.language)
     }
 
-    /// Its list of codes (ISO/IEC 23009-1, 5.3.7.2; RFC 6381).
+    /// Its list of codecs (ISO/IEC 23009-1, 5.3.7.2; RFC 6381).
     pub fn codecs(&self) -> Option<&'a str>
         ensures { option_map (λ text. text.now) result ≡ (track_in self.now).description.codecs }
     {
         text_of(&self.row.description.codecs)
     }
 
-    /// Width and height (ISO/IEC 23009-1, 5.3.7.2). There is none exactly where one of them is absent.
+    /// Width and height (ISO/IEC 23009-1, 5.3.7.2); `None` exactly where one of them is absent.
     pub fn size(&self) -> Option<Size>
         ensures { result ≡ (track_in self.now).description.size }
     {
@@ -215,7 +215,7 @@ impl<'a, X> TrackView<'a, X> {
         }
     }
 
-    /// Where its `<` stands.
+    /// The position of its `<`.
     pub fn place(&self) -> Place
         ensures { result ≡ (track_in self.now).description.place }
     {
@@ -227,7 +227,7 @@ impl<'a> TrackView<'a, SegmentRow> {
     ghost use Rattle.mpd_levels.specs.Shown.{addressed};
     ghost use Rattle.mpd_rules.specs.Views.{segments_told, tables_of, track_in};
 
-    /// How its segments are told (ISO/IEC 23009-1, 5.3.9).
+    /// How its segments are addressed (ISO/IEC 23009-1, 5.3.9).
     pub fn addressing(&self) -> Addressing<'a>
         ensures segments { segments_told (track_in self.now).segments ≡ Some (addressed result) }
         ensures tables { tables_of result ≡ (track_in self.now).segments.tables }
@@ -240,7 +240,7 @@ impl<'a> TrackView<'a, FileIndex> {
     ghost use Rattle.mpd_levels.specs.Shown.{initialization_shown};
     ghost use Rattle.mpd_rules.specs.Views.{index_in, track_in};
 
-    /// The bytes of its file's index (ISO/IEC 23009-1, 5.3.9.2).
+    /// The byte range of its file's `sidx` (ISO/IEC 23009-1, 5.3.9.2).
     pub fn index_range(&self) -> Range
         ensures told { (index_in (track_in self.now).segments).range ≡ Some result }
         ensures some { 0 < result.count }
@@ -249,7 +249,7 @@ impl<'a> TrackView<'a, FileIndex> {
         self.row.segments.range()
     }
 
-    /// Its Initialization. There is none exactly where no such element is effective (ISO/IEC 23009-1, 5.3.9.2).
+    /// Its Initialization (ISO/IEC 23009-1, 5.3.9.2); `None` exactly where no such element is effective.
     pub fn initialization(&self) -> Option<InitView<'a>>
         ensures { option_map initialization_shown result ≡ (index_in (track_in self.now).segments).initialization }
     {

@@ -1,4 +1,4 @@
--- What is kept while a text is read, as it is shown.
+-- The result so far while a text is read.
 use Rattle.mpd_text.specs.declared.content.Piece.TheVariants as pieces
 use Rattle.mpd_tree.specs.Pieces as spec
 use Rattle.mpd_tree.specs.Grammar as grammar
@@ -8,7 +8,7 @@ use Rattle.mpd_tree.specs.{Forests.{Shown, shown_of, flat}, Trees.{names_of, Att
 use Rattle.mpd_tree.specs.{Views.attribute_of, Rows.IsKept, declared.tree.KeptSpan.KeptSpan, Positions.place_before}
 use Rattle.mpd_tree.specs.{Productions.{Production, ◌>>◌}, Grammar.{tag, next_inside, inside}, Runs.name_at}
 
--- the source, and behind it what was read otherwise than it stands there
+-- the source, and after it what differs from the source once read
 abbrev pub kept_of : Kept → List ℕ
 kept_of k = k.source.now ++ string_bytes k.read
 
@@ -25,23 +25,23 @@ attributes_from k from = drop from (attributes_in k)
 abbrev pub names_from : Kept → ℕ → List (List ℕ)
 names_from k from = names_of (attributes_from k from)
 
--- these rows came
+-- these rows were added
 pub record Grows (rows : List Shown) (old new : Kept) : Type 0 where
   pub same : new.source.now ≡ old.source.now
   pub shown_are : shown_in new ≡ shown_in old ++ rows
 
--- these attributes came
+-- these attributes were added
 pub record Adds (attributes : List Attribute) (old new : Kept) : Type 0 where
   pub same : new.source.now ≡ old.source.now
   pub shown_are : shown_in new ≡ shown_in old
   pub attributes_are : attributes_in new ≡ attributes_in old ++ attributes
 
--- no rows came
+-- no rows were added
 pub record Stays (old new : Kept) : Type 0 where
   pub same : new.source.now ≡ old.source.now
   pub shown_are : shown_in new ≡ shown_in old
 
--- what a tag shows whose name is at the front of the bytes
+-- the head of a tag whose name the bytes begin with
 abbrev pub head_at : List ℕ → ℕ → List ℕ → List Attribute → Head
 head_at whole left bytes attributes = record {
   name = (name_at bytes).0;
@@ -66,7 +66,7 @@ IsTag pieces.Ended = ⊥
 IsTag pieces.Empty = Unit {0}
 IsTag (pieces.Begun b) = Unit {0}
 
--- what is kept of a piece, where there was room for so many elements inside one another
+-- what is stored of a piece, given the nesting levels that were left
 abbrev pub IsPieceKept : ℕ → Head → Kept → Kept → Piece → Type 0
 IsPieceKept room head old new pieces.Comment = Stays old new
 IsPieceKept room head old new pieces.Ended = Stays old new
@@ -75,17 +75,17 @@ IsPieceKept room head old new (pieces.Begun b) =
     (b.row ≡ length (shown_in old)) × (b.name.now ≡ head.name) × (suc b.room ≡ room)
     × Grows (record { head = head; next = suc (length (shown_in old)) } ∷ []) old new
 
--- what is kept of a piece that was read up to the rest
+-- what is stored of a piece that was read up to the rest
 pub record IsPieceRead (room : ℕ) (head : Head) (old new : Kept) (piece : Piece) (rest : List ℕ) : Type 0 where
   pub kept : IsPieceKept room head old new piece
   pub left : IsBehind old.source.now rest
 
--- so much is kept of the source, and is left of it
+-- the span is stored, and the rest of the source is left
 pub record IsSpanRead (old new : Kept) (span : KeptSpan) (rest : List ℕ) : Type 0 where
   pub kept : IsKept new.source.now (kept_of new) span
   pub left : IsBehind old.source.now rest
 
--- the source stays, and so much is left of it
+-- the source is unchanged, and the rest of it is left
 pub record IsLeft (old new : Kept) (rest : List ℕ) : Type 0 where
   pub same : new.source.now ≡ old.source.now
   pub left : IsBehind old.source.now rest
@@ -96,11 +96,11 @@ pub record IsFilled (at : ℕ) (i : spec.Inside) (old new : Kept) : Type 0 where
   pub shown_are : (before : List Shown) (s : Shown) → shown_in old ≡ before ++ s ∷ [] → length before ≡ at
       → shown_in new ≡ before ++ flat at (element (record s.head { text = i.text }) i.children nothing)
 
--- one element is shown, and what is in it
+-- the rows are those of one element and its content
 abbrev pub ShowsRoot : Kept → Element → Type 0
 ShowsRoot k root = shown_in k ≡ flat 0 (element root.head root.children nothing)
 
--- character data and the piece behind it, behind what is read so far
+-- character data and the piece after it, after what is read so far
 abbrev pub content_step : ℕ → List ℕ → List ℕ → Forest → List ℕ → List ℕ → Production (spec.Inside × Bool × List ℕ)
 content_step room whole name children text bytes =
     next_inside (inside room whole) whole room name (record { children = children; text = text }) bytes

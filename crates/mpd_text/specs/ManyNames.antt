@@ -11,6 +11,6 @@ has_name many name = is_among name (map (λ key. key.now) many.names.keys)
 abbrev pub HasNames : ManyNames → List (List ℕ) → Type 0
 HasNames many names = (name : List ℕ) → has_name many name ≡ is_among name names
 
--- the set has the names where these are many, and otherwise none
+-- the set has the names where there are many, and otherwise none
 abbrev pub IsPrepared : ManyNames → List (List ℕ) → Type 0
 IsPrepared many names = (length names ≤ 16 → HasNames many []) × (16 < length names → HasNames many names)

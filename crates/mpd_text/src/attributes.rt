@@ -1,4 +1,4 @@
-// The attributes of a tag, from left to right.
+// The attributes of a tag, left to right.
 ghost use Rattle.std.specs.Prelude.{◌≡◌, ◌≤◌, ◌++◌, ◌∷◌, ◌⊎◌, [], false, length, IfOk, IfErr, OnOk};
 ghost use Rattle.bridge_io.specs.Answer.{Gives};
 ghost use Rattle.bridge_io.specs.Texts.{is_among};
@@ -16,7 +16,7 @@ use crate::kept::Kept;
 use crate::many_names::{FEW, ManyNames, is_name_of_any};
 use mpd_tree::{Stop, Wrong, decided, syntax};
 
-/// What stands behind the `=` at the front, and the white space around it.
+/// Skips a leading `=`, with white space around it.
 #[tactic(auto, unfolding(mpd_tree::specs::Grammar::equals))]
 fn after_equals(bytes: &[u8]) -> Result<&[u8], Stop>
     ensures { Gives (λ x. x.now) fault_in result (spec.equals bytes.now).read }
@@ -27,7 +27,7 @@ fn after_equals(bytes: &[u8]) -> Result<&[u8], Stop>
     }
 }
 
-/// The quote at the front, and what stands behind it.
+/// The leading quote, and the bytes after it.
 #[tactic(auto, unfolding(mpd_tree::specs::Grammar::quote_mark))]
 fn quote_of(bytes: &[u8]) -> Result<(u8, &[u8]), Stop>
     ensures quote { IfOk result (λ x. (x.0 ≡ 34) ⊎ (x.0 ≡ 39)) }
@@ -39,14 +39,14 @@ fn quote_of(bytes: &[u8]) -> Result<(u8, &[u8]), Stop>
     }
 }
 
-/// The attributes of one tag so far: those from a row on, with their names where they are many.
+/// The attributes of one tag so far: those from a row on, with a set of their names where there are many.
 #[derive(Drop)]
 struct Names<'a> {
     from: usize,
     many: ManyNames<'a>,
 }
 
-/// Whether an attribute before in the same tag has that name.
+/// Whether an earlier attribute of the same tag has that name.
 #[tactic(auto, using(crate::proofs::KeptRows::lengths), unfolding(crate::specs::Keeping::attributes_in))]
 fn is_repeated<'a>(kept: &Kept<'a>, names: &mut Names<'a>, name: &'a [u8]) -> Result<bool, Stop>
     requires known { AreKnown kept.now names.old }
@@ -63,7 +63,7 @@ fn is_repeated<'a>(kept: &Kept<'a>, names: &mut Names<'a>, name: &'a [u8]) -> Re
     names.many.repeats(source, before, name)
 }
 
-/// What stands behind the name at the front, which no attribute before in the same tag has.
+/// The bytes after the leading name, which no earlier attribute of the same tag has.
 #[tactic(auto, unfolding(mpd_tree::specs::Grammar::new_name))]
 fn new_name_of<'a>(
     kept: &Kept<'a>,
@@ -82,7 +82,7 @@ fn new_name_of<'a>(
     Ok(rest)
 }
 
-/// Keeps the attribute at the front.
+/// Reads the leading attribute.
 #[tactic(auto, unfolding(mpd_tree::specs::Grammar::attribute))]
 fn attribute_of<'a>(
     kept: &mut Kept<'a>,
@@ -103,7 +103,7 @@ fn attribute_of<'a>(
     Ok(rest)
 }
 
-/// Keeps the attribute behind white space at the front, or comes to the tag's end; whether that is so.
+/// Reads the attribute after leading white space, or reaches the tag's end; whether it is the end.
 #[tactic(auto, using(crate::proofs::Rests::white_left, crate::proofs::Rests::ends), unfolding(mpd_tree::specs::Grammar::next_attribute))]
 fn next_of<'a>(
     kept: &mut Kept<'a>,
@@ -127,7 +127,7 @@ fn next_of<'a>(
     }
 }
 
-/// Keeps the attributes at the front, up to the `>` or `/` of their tag.
+/// Reads the leading attributes, up to the `>` or `/` of their tag.
 pub(crate) fn attributes_of<'a>(kept: &mut Kept<'a>, bytes: &'a [u8]) -> Result<&'a [u8], Stop>
     requires { IsEnd kept.old.source.now bytes.now }
     ensures read { Gives (λ rest. (attributes_from kept.new (length (attributes_in kept.old)), rest.now)) fault_in result

@@ -1,4 +1,4 @@
-// The bytes of a text by their parts in the grammar of XML 1.0, and runs of them.
+// The bytes of a text by their role in the grammar of XML 1.0, and runs of them.
 ghost use Rattle.std.specs.Prelude.{◌≡◌, position};
 ghost use Rattle.mpd_tree.specs.Characters.{is_white, starts_name, goes_on_name};
 ghost use Rattle.mpd_tree.specs.Runs as runs;
@@ -12,7 +12,7 @@ pub(crate) fn is_white(byte: u8) -> bool
     byte == b' ' || byte == b'\t' || byte == b'\n' || byte == b'\r'
 }
 
-/// The first byte of a name. All characters from U+0080 on are let through.
+/// The first byte of a name. All characters from U+0080 on are allowed.
 #[tactic(auto, unfolding(mpd_tree::specs::Characters::starts_name))]
 #[inline(always)]
 pub(crate) fn starts_name(byte: u8) -> bool
@@ -50,7 +50,7 @@ fn black_at(bytes: &[u8]) -> Option<usize>
     bytes.iter().position(|b| is_black(*b))
 }
 
-/// What stands behind the white space at the front.
+/// Skips leading white space.
 pub(crate) fn after_white(bytes: &[u8]) -> &[u8]
     ensures { result.now ≡ runs.after_white bytes.now }
 {
@@ -64,7 +64,7 @@ fn name_end(bytes: &[u8]) -> Option<usize>
     bytes.iter().position(|b| ends_name(*b))
 }
 
-/// The name at the front, and what stands behind it.
+/// The leading name, and the bytes after it.
 pub(crate) fn name_of(bytes: &[u8]) -> (&[u8], &[u8])
     ensures name { result.0.now ≡ (runs.name_at bytes.now).0 }
     ensures rest { result.1.now ≡ (runs.name_at bytes.now).1 }

@@ -1,4 +1,4 @@
-// Bytes that are a text, and that have no character which no text may have.
+// Checks for UTF-8, and for characters that are never allowed.
 ghost use Rattle.std.specs.Prelude.{◌≡◌, ◌⊎◌, ◌<◌, ◌≤◌, ℕ, length, drop, position, false, IfOk, IfErr, IfSome, MatchOption};
 ghost use Rattle.std.specs.String.{string_bytes};
 ghost use Rattle.byte_scan.specs.Class.{is_low_control};
@@ -23,7 +23,7 @@ fn begins_with_noncharacter(bytes: &[u8]) -> bool
 /// The byte that U+FFFE and U+FFFF begin with.
 const LEAD: u8 = 0xef;
 
-/// Where that byte stands for the first time from there on.
+/// The index of its next occurrence from `from` on.
 fn next_lead(bytes: &[u8], from: usize) -> Option<usize>
     requires { from ≤ length bytes.now }
     ensures { MatchOption result ((j : ℕ) → from ≤ j → begins_with_noncharacter (drop j bytes.now) ≡ false)
@@ -37,7 +37,7 @@ fn next_lead(bytes: &[u8], from: usize) -> Option<usize>
     }
 }
 
-/// Where U+FFFE or U+FFFF stands for the first time.
+/// The index of the first U+FFFE or U+FFFF.
 fn first_noncharacter(bytes: &[u8]) -> Option<usize>
     ensures { IsFirstNoncharacter bytes.now result }
 {
@@ -51,14 +51,14 @@ fn first_noncharacter(bytes: &[u8]) -> Option<usize>
     None
 }
 
-/// Where a control character stands for the first time that no text may have.
+/// The index of the first control character that is never allowed.
 fn first_control(bytes: &[u8]) -> Option<usize>
     ensures { result ≡ position is_low_control bytes.now }
 {
     first_outside(bytes, Class::Xml)
 }
 
-/// The lesser of two places that may be there.
+/// The lesser of two optional indices.
 fn lesser(first: Option<usize>, second: Option<usize>) -> Option<usize>
     ensures { result ≡ lesser first second }
 {
@@ -69,7 +69,7 @@ fn lesser(first: Option<usize>, second: Option<usize>) -> Option<usize>
     }
 }
 
-/// Where a character begins for the first time that no text may have.
+/// The index of the first character that is never allowed.
 #[tactic(auto, using(crate::proofs::BadLemmas::bad_first, crate::proofs::BadLemmas::bad_within))]
 fn first_bad_character(bytes: &[u8]) -> Option<usize>
     ensures first { result ≡ first_bad_character bytes.now }
@@ -78,7 +78,7 @@ fn first_bad_character(bytes: &[u8]) -> Option<usize>
     lesser(first_control(bytes), first_noncharacter(bytes))
 }
 
-/// The bytes, taken over as a text.
+/// The bytes, moved into a text.
 #[tactic(auto, using(std::proofs::lemmas::Str::utf8_valid_len_le))]
 fn text_of(bytes: Bytes) -> Result<String, TextFault>
     ensures text { IfOk result (λ text. string_bytes text ≡ bytes) }
@@ -93,7 +93,7 @@ fn text_of(bytes: Bytes) -> Result<String, TextFault>
     }
 }
 
-/// The bytes, taken over as a text without a character that no text may have.
+/// The bytes, moved into a text that has only allowed characters.
 pub(crate) fn clean(bytes: Bytes) -> Result<String, TextFault>
     ensures text { IfOk result (λ text. string_bytes text ≡ bytes) }
     ensures clean { IfOk result (λ _. IsClean bytes) }

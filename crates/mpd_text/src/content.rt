@@ -19,10 +19,10 @@ use crate::markup::{closed_of, comment_of, end_tag_of};
 use crate::text::{add_text, plain_of};
 use mpd_tree::{KeptSpan, Stop, Wrong, decided, syntax};
 
-/// As many elements may stand inside one another.
+/// The greatest nesting depth of elements.
 const DEEPEST: usize = 32;
 
-/// A start tag: its element's row and name, and how many elements may stand inside one another in it.
+/// A start tag: its element's row and name, and how many nesting levels are left in it.
 #[derive(Drop)]
 struct Begun<'a> {
     row: usize,
@@ -30,7 +30,7 @@ struct Begun<'a> {
     room: usize,
 }
 
-/// What stands behind some character data.
+/// What follows some character data.
 #[derive(Drop)]
 enum Piece<'a> {
     Comment,
@@ -39,7 +39,7 @@ enum Piece<'a> {
     Ended,
 }
 
-/// Whether a tag is an empty one, and what stands behind it.
+/// Whether a tag is an empty one, and the bytes after it.
 #[tactic(auto, unfolding(mpd_tree::specs::Grammar::tag_end, mpd_tree::specs::Grammar::greater_than))]
 fn tag_end_of(bytes: &[u8]) -> Result<(bool, &[u8]), Stop>
     ensures { Gives (λ x. (x.0, x.1.now)) fault_in result (spec.tag_end bytes.now).read }
@@ -56,7 +56,7 @@ fn tag_end_of(bytes: &[u8]) -> Result<(bool, &[u8]), Stop>
     }
 }
 
-/// Keeps the element whose tag stands there from its name on, with room for so many inside one another from it on.
+/// Reads an element's tag from its name on, with `room` nesting levels left, including its own.
 #[tactic(auto, unfolding(mpd_tree::specs::Grammar::tag))]
 fn tag_of<'a>(
     kept: &mut Kept<'a>,
@@ -89,7 +89,7 @@ fn tag_of<'a>(
     Ok((Piece::Begun(begun), rest))
 }
 
-/// Reads the comment or tag behind whose `<` the bytes stand, inside the element of that name.
+/// Reads a comment or tag after its `<`, inside the element of that name.
 #[tactic(auto, unfolding(mpd_tree::specs::Grammar::piece))]
 fn piece_of<'a>(
     kept: &mut Kept<'a>,
@@ -142,7 +142,7 @@ fn inside_of<'a>(kept: &mut Kept<'a>, begun: Begun<'a>, bytes: &'a [u8]) -> Resu
     Ok(rest)
 }
 
-/// Adds the character data at the front to the text, and keeps the piece behind them; whether that ends the element.
+/// Appends the leading character data to the text, and reads the piece after them; whether that ends the element.
 #[cycle(content)]
 fn next_content<'a>(
     kept: &mut Kept<'a>,
@@ -173,7 +173,7 @@ fn next_content<'a>(
     }
 }
 
-/// What stands behind the `</` at the front, if there is one.
+/// The bytes after a leading `</`, if there is one.
 fn behind_end_start(bytes: &[u8]) -> Option<&[u8]>
     ensures { IfSome result (λ rest. bytes.now ≡ 60 ∷ 47 ∷ rest.now) }
 {
@@ -183,8 +183,8 @@ fn behind_end_start(bytes: &[u8]) -> Option<&[u8]>
     }
 }
 
-/// Reads the content at the front and the end tag behind it, inside the element of that name. Text alone that reads as it
-/// stands is kept where it stands.
+/// Reads the leading content and the end tag after it, inside the element of that name. A single text that is equal to
+/// its source is stored as a span of the source.
 #[cycle(content)]
 fn content_of<'a>(
     kept: &mut Kept<'a>,
@@ -218,7 +218,7 @@ fn content_of<'a>(
     Err(syntax(&[]))
 }
 
-/// Reads the element whose name stands there, and what is in it: the first that is kept.
+/// Reads the root element from its name on, with its content.
 fn element_of<'a>(kept: &mut Kept<'a>, left: usize, bytes: &'a [u8]) -> Result<&'a [u8], Stop>
     requires rest { IsBehind kept.old.source.now bytes.now }
     requires left { left ≡ length bytes.now + 1 }
@@ -240,7 +240,7 @@ fn element_of<'a>(kept: &mut Kept<'a>, left: usize, bytes: &'a [u8]) -> Result<&
     }
 }
 
-/// Reads the root behind whose `<` the bytes stand.
+/// Reads the root after its `<`.
 #[tactic(auto, unfolding(mpd_tree::specs::Grammar::behind_root_start))]
 fn root_behind<'a>(kept: &mut Kept<'a>, left: usize, bytes: &'a [u8]) -> Result<&'a [u8], Stop>
     requires rest { IsBehind kept.old.source.now bytes.now }
@@ -259,7 +259,7 @@ fn root_behind<'a>(kept: &mut Kept<'a>, left: usize, bytes: &'a [u8]) -> Result<
     }
 }
 
-/// Reads the root at the front.
+/// Reads the root.
 #[tactic(auto, unfolding(mpd_tree::specs::Grammar::root))]
 pub(crate) fn root_of<'a>(kept: &mut Kept<'a>, bytes: &'a [u8]) -> Result<&'a [u8], Stop>
     requires rest { IsEnd kept.old.source.now bytes.now }

@@ -1,4 +1,4 @@
-// What is kept of a text while it is read: its rows, and what is read otherwise than it stands there.
+// The result so far while a text is read: its rows, and what differs from the source once read.
 ghost use Rattle.std.specs.Prelude.{◌≡◌, ◌≤◌, ◌<◌, ◌-◌, ◌+◌, ◌++◌, ◌∷◌, ◌⊎◌, [], suc, All, List, length, vec_len, IfOk, IfErr, OnOk};
 ghost use Rattle.std.specs.Prelude.{IsUtf8};
 ghost use Rattle.std.specs.String.{string_bytes};
@@ -24,7 +24,7 @@ pub(crate) struct Kept<'a> {
     pub(crate) elements: ElementTable,
     pub(crate) attributes: Vec<AttributeRow>,
     pub(crate) read: String,
-    /// Texts that are kept already, whose room serves others.
+    /// Texts that were stored already, whose buffers are reused.
     spare: Vec<String>,
     ghost utf8: { ∥ IsUtf8 source.now ∥₁ },
     ghost elements_kept: { All (IsElementKept source.now (source.now ++ string_bytes read)) elements },
@@ -57,7 +57,7 @@ impl<'a> Kept<'a> {
         }
     }
 
-    /// A text with no character yet.
+    /// An empty text.
     pub(crate) fn new_text(&mut self) -> String
         ensures text { string_bytes result ≡ [] }
         ensures adds { Adds [] self.old self.new }
@@ -67,7 +67,7 @@ impl<'a> Kept<'a> {
         text
     }
 
-    /// How many attributes are kept.
+    /// How many attributes were read.
     #[tactic(auto, using(crate::proofs::KeptRows::lengths), unfolding(crate::specs::Keeping::attributes_in))]
     pub(crate) fn attribute_count(&self) -> usize
         ensures { result ≡ length (attributes_in self.now) }
@@ -75,7 +75,7 @@ impl<'a> Kept<'a> {
         self.attributes.len()
     }
 
-    /// The bytes of the source from where some stand up to where the others do.
+    /// The span of the source from where `bytes` begin to where `rest` begins.
     pub(crate) fn span(&self, bytes: &[u8], rest: &[u8]) -> Result<KeptSpan, Stop>
         requires bytes { length bytes.now ≤ length self.now.source.now }
         requires rest { length rest.now ≤ length bytes.now }
@@ -93,8 +93,8 @@ impl<'a> Kept<'a> {
         self.source.len() + self.read.len()
     }
 
-    /// Keeps the value at the front, up to that quote, and answers what stands behind the quote. A value that reads as it
-    /// stands is kept where it stands.
+    /// Reads the leading value, up to that quote, and returns the bytes after the quote. A value that is equal to its
+    /// source is stored as a span of the source.
     pub(crate) fn value_of(
         &mut self,
         quote: u8,
@@ -141,7 +141,7 @@ impl<'a> Kept<'a> {
         }
     }
 
-    /// Keeps a text.
+    /// Stores a text.
     fn keep(&mut self, text: &str) -> Result<KeptSpan, Stop>
         ensures text { IfOk result (λ span. bytes_of (kept_of self.new) span ≡ text.now) }
         ensures kept { IfOk result (λ span. IsKept self.new.source.now (kept_of self.new) span) }
@@ -157,7 +157,7 @@ impl<'a> Kept<'a> {
         Ok(span)
     }
 
-    /// Keeps a text, whose room then serves others.
+    /// Stores a text, and keeps its buffer for reuse.
     pub(crate) fn keep_text(&mut self, text: String) -> Result<KeptSpan, Stop>
         ensures text { IfOk result (λ span. bytes_of (kept_of self.new) span ≡ string_bytes text) }
         ensures kept { IfOk result (λ span. IsKept self.new.source.now (kept_of self.new) span) }
@@ -169,7 +169,7 @@ impl<'a> Kept<'a> {
         Ok(span)
     }
 
-    /// Adds an attribute whose name is at the front of the bytes, up to the rest.
+    /// Adds an attribute. Its name is the bytes up to the rest.
     pub(crate) fn add_attribute(
         &mut self,
         bytes: &[u8],
@@ -191,8 +191,8 @@ impl<'a> Kept<'a> {
         Ok(())
     }
 
-    /// Adds an element without content, whose name is at the front of the bytes, up to the rest, and whose attributes are
-    /// those from there on, and answers its row.
+    /// Adds an element without content, and returns its row. Its name is the bytes up to the rest, and its attributes are
+    /// those from `attributes` on.
     #[tactic(auto, unfolding(crate::specs::Keeping::attributes_in))]
     pub(crate) fn add_element(
         &mut self,
@@ -226,7 +226,7 @@ impl<'a> Kept<'a> {
         Ok(row)
     }
 
-    /// All elements behind the one in that row are inside it, and its character data are these.
+    /// Ends the element in that row: all elements after it are inside it, and `text` is its character data.
     pub(crate) fn end_element(&mut self, row: usize, text: KeptSpan) -> Result<(), Stop>
         requires row { row < length (shown_in self.old) }
         requires text { IsKept self.old.source.now (kept_of self.old) text }

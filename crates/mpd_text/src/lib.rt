@@ -1,4 +1,4 @@
-//! From the text of an MPD to the tree that it spells, or to its one fault.
+//! Reads the text of an MPD into the tree that it spells, or finds its one fault.
 #![tactic(auto)]
 
 mod attributes;

@@ -1,4 +1,4 @@
-// The names of one tag where there are many, so that a hostile tag takes no square of its length.
+// A set of the names of one tag where there are many, so that a malicious tag doesn't take quadratic time.
 ghost use Rattle.std.specs.Prelude.{◌≡◌, ◌≤◌, ◌++◌, ◌∷◌, [], ℕ, List, All, IfErr, IfOk, OnOk, length, not, false, slice_range};
 ghost use Rattle.bridge_io.specs.Texts.{is_among};
 ghost use Rattle.mpd_text.specs.Names.{HasNameWithin, name_in, names_in};
@@ -8,7 +8,7 @@ use mpd_tree::{AttributeRow, Stop};
 use std::alloc::Global;
 use std::collections::BTreeSet;
 
-/// As many attributes are looked through one by one.
+/// Up to this many attributes are compared one by one.
 pub(crate) const FEW: usize = 16;
 
 #[derive(Drop)]
@@ -41,7 +41,7 @@ impl<'a> ManyNames<'a> {
         Ok(())
     }
 
-    /// Adds a name behind those of many attributes, and answers whether one of these has it.
+    /// Adds a name after those of many attributes, and returns whether one of these has it.
     pub(crate) fn repeats(
         &mut self,
         bytes: &'a [u8],
@@ -61,7 +61,7 @@ impl<'a> ManyNames<'a> {
         Ok(!self.add(name)?)
     }
 
-    /// Adds a name, and answers whether it is new.
+    /// Adds a name, and returns whether it is new.
     pub(crate) fn add(&mut self, name: &'a [u8]) -> Result<bool, Stop>
         ensures name { (names : List (List ℕ)) → HasNames self.old names →
             IfOk result (λ is_new. (is_new ≡ not (is_among name.now names)) × HasNames self.new (names ++ name.now ∷ [])) }
@@ -79,7 +79,7 @@ pub(crate) fn name_of<'a>(bytes: &'a [u8], row: &AttributeRow) -> &'a [u8]
     &bytes[row.name.start()..row.name.end()]
 }
 
-/// Whether an attribute of these has that name.
+/// Whether one of these attributes has that name.
 pub(crate) fn is_name_of_any(bytes: &[u8], rows: &[AttributeRow], name: &[u8]) -> bool
     requires { All (HasNameWithin (length bytes.now)) rows.now }
     ensures { result ≡ is_among name.now (names_in bytes.now rows.now) }

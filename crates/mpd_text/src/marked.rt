@@ -1,11 +1,11 @@
-// The bytes that need a look.
+// The bytes that end plain text.
 ghost use Rattle.std.specs.Prelude.{◌≡◌, ◌⊎◌, IsTrue};
 ghost use Rattle.byte_scan.specs.ByteSet.{all_ascii};
 ghost use Rattle.mpd_tree.specs.Marked.{marked_in_content, marked_in_value};
 
 use byte_scan::ByteSet;
 
-/// The bytes that need a look: in content, in values between `"`, and in values between `'`.
+/// The bytes that end plain text: in content, in values between `"`, and in values between `'`.
 #[derive(Drop)]
 pub(crate) struct Marked {
     pub(crate) content: ByteSet,
@@ -25,7 +25,7 @@ impl Marked {
         }
     }
 
-    /// Those of a value between such quotes.
+    /// Those of a value between these quotes.
     pub(crate) fn in_value(&self, quote: u8) -> &ByteSet
         ensures ascii { IsTrue (all_ascii result.now) }
         ensures marked { (quote ≡ 34) ⊎ (quote ≡ 39) → result.now ≡ marked_in_value quote }

@@ -1,4 +1,4 @@
-// Comments and end tags, behind their `<`.
+// Comments and end tags, after their `<`.
 ghost use Rattle.bridge_io.specs.Answer.{Gives};
 ghost use Rattle.mpd_tree.specs.Grammar as spec;
 ghost use Rattle.mpd_tree.specs.Reading.{fault_in};
@@ -6,7 +6,7 @@ ghost use Rattle.mpd_tree.specs.Reading.{fault_in};
 use crate::class::{after_white, name_of, starts_name};
 use mpd_tree::{Stop, Wrong, decided, syntax};
 
-/// What stands behind the `>` at the front.
+/// Skips a leading `>`.
 #[tactic(auto, unfolding(mpd_tree::specs::Grammar::greater_than))]
 pub(crate) fn closed_of(bytes: &[u8]) -> Result<&[u8], Stop>
     ensures { Gives (λ x. x.now) fault_in result (spec.greater_than bytes.now).read }
@@ -17,7 +17,7 @@ pub(crate) fn closed_of(bytes: &[u8]) -> Result<&[u8], Stop>
     }
 }
 
-/// What stands behind the end of a comment, behind its `--`.
+/// Skips the end of a comment, after its `--`.
 #[tactic(auto, unfolding(mpd_tree::specs::Grammar::behind_dashes, mpd_tree::specs::Grammar::greater_than))]
 fn behind_dashes(bytes: &[u8]) -> Result<&[u8], Stop>
     ensures { Gives (λ x. x.now) fault_in result (spec.behind_dashes bytes.now).read }
@@ -28,7 +28,7 @@ fn behind_dashes(bytes: &[u8]) -> Result<&[u8], Stop>
     }
 }
 
-/// What stands behind the first place where these two bytes stand side by side.
+/// The bytes after the first occurrence of these two bytes next to each other.
 #[tactic(auto, unfolding(mpd_tree::specs::Grammar::behind_two))]
 pub(crate) fn behind_two(one: u8, other: u8, bytes: &[u8]) -> Result<&[u8], Stop>
     ensures { Gives (λ x. x.now) fault_in result (spec.behind_two one other bytes.now).read }
@@ -57,7 +57,7 @@ fn second_dash(bytes: &[u8]) -> Result<&[u8], Stop>
     }
 }
 
-/// What stands behind the comment behind whose `<!` the bytes stand. So many are left from the `<` on.
+/// Skips a comment, after its `<!`. `left` bytes are left from its `<`.
 #[tactic(auto, unfolding(mpd_tree::specs::Grammar::comment))]
 pub(crate) fn comment_of(left: usize, bytes: &[u8]) -> Result<&[u8], Stop>
     ensures { Gives (λ x. x.now) fault_in result (spec.comment left bytes.now).read }
@@ -81,7 +81,7 @@ fn end_name_of<'a>(name: &[u8], left: usize, bytes: &'a [u8]) -> Result<&'a [u8]
     Err(decided(Wrong::TagMismatch, left, rest))
 }
 
-/// What stands behind the end tag behind whose `</` the bytes stand.
+/// Skips an end tag, after its `</`. `left` bytes are left from its `<`.
 #[tactic(auto, unfolding(mpd_tree::specs::Grammar::end_tag))]
 pub(crate) fn end_tag_of<'a>(name: &[u8], left: usize, bytes: &'a [u8]) -> Result<&'a [u8], Stop>
     ensures { Gives (λ x. x.now) fault_in result (spec.end_tag name.now left bytes.now).read }

@@ -1,4 +1,4 @@
-// Places in a text.
+// Positions in a text.
 ghost use Rattle.std.specs.Prelude.{◌≡◌, ◌≤◌, length};
 ghost use Rattle.bridge_io.specs.Places.{place_of};
 ghost use Rattle.mpd_tree.specs.Faults as faults;
@@ -8,7 +8,7 @@ use bridge_io::Place;
 use byte_scan::count_lf;
 use mpd_tree::{Fault, Stop, TextFault, Wrong};
 
-/// The place of a byte, or of the end.
+/// The position of a byte, or of the end.
 pub(crate) fn place_at(bytes: &[u8], at: usize) -> Place
     requires { at ≤ length bytes.now }
     ensures { result ≡ place_of bytes.now at }
@@ -19,7 +19,7 @@ pub(crate) fn place_at(bytes: &[u8], at: usize) -> Place
     }
 }
 
-/// What a fault is called, and where it is told: places are counted from the front.
+/// A fault with its position, counted from the start.
 fn placed(bytes: &[u8], fault: Fault) -> TextFault
     ensures { result ≡ faults.placed bytes.now fault }
 {
@@ -39,7 +39,7 @@ fn placed(bytes: &[u8], fault: Fault) -> TextFault
     }
 }
 
-/// The fault that stopped reading, as a caller sees it.
+/// The fault that stopped reading, as callers see it.
 #[cold]
 pub(crate) fn told(bytes: &[u8], stop: Stop) -> TextFault
     ensures { result ≡ spec.stop_told bytes.now stop }

@@ -1,4 +1,4 @@
-// What stands around the root: the byte order mark, the declaration, white space and comments.
+// What is around the root: the byte order mark, the declaration, white space and comments.
 ghost use Rattle.std.specs.Prelude.{◌≡◌, false};
 ghost use Rattle.bridge_io.specs.Answer.{Gives};
 ghost use Rattle.mpd_tree.specs.Grammar as spec;
@@ -10,7 +10,7 @@ use crate::markup::{behind_two, comment_of};
 use crate::references::common;
 use mpd_tree::{Stop, Wrong, decided, syntax};
 
-/// What stands behind the byte order mark, if there is one.
+/// Skips a byte order mark, if there is one.
 fn after_mark(bytes: &[u8]) -> &[u8]
     ensures { result.now ≡ runs.after_mark bytes.now }
 {
@@ -21,7 +21,7 @@ fn after_mark(bytes: &[u8]) -> &[u8]
     }
 }
 
-/// What stands behind the declaration behind whose `<?xml` the bytes stand. So many are left from the `<` on.
+/// Skips a declaration, after its `<?xml`. `left` bytes are left from its `<`.
 #[tactic(auto, unfolding(mpd_tree::specs::Grammar::declared))]
 fn declared_of(left: usize, bytes: &[u8]) -> Result<&[u8], Stop>
     ensures { Gives (λ x. x.now) fault_in result (spec.declared left bytes.now).read }
@@ -32,7 +32,7 @@ fn declared_of(left: usize, bytes: &[u8]) -> Result<&[u8], Stop>
     }
 }
 
-/// The same behind its `<?`.
+/// The same after its `<?`.
 #[tactic(auto, unfolding(mpd_tree::specs::Grammar::declaration))]
 fn declaration_of(left: usize, bytes: &[u8]) -> Result<&[u8], Stop>
     ensures { Gives (λ x. x.now) fault_in result (spec.declaration left bytes.now).read }
@@ -46,7 +46,7 @@ fn declaration_of(left: usize, bytes: &[u8]) -> Result<&[u8], Stop>
     }
 }
 
-/// What stands behind the byte order mark and the declaration, where there are any.
+/// Skips a byte order mark and a declaration, where there are any.
 #[tactic(auto, unfolding(mpd_tree::specs::Grammar::beginning))]
 pub(crate) fn after_beginning(bytes: &[u8]) -> Result<&[u8], Stop>
     ensures { Gives (λ x. x.now) fault_in result (spec.beginning bytes.now).read }
@@ -59,7 +59,7 @@ pub(crate) fn after_beginning(bytes: &[u8]) -> Result<&[u8], Stop>
     }
 }
 
-/// What stands behind the comment at the front and the white space behind that, or there is none; whether that is so.
+/// Skips a leading comment and the white space after it; whether there is none.
 #[tactic(auto, unfolding(mpd_tree::specs::Grammar::next_comment))]
 fn next_comment(bytes: &[u8]) -> Result<(bool, &[u8]), Stop>
     ensures { Gives (λ x. (tt, x.0, x.1.now)) fault_in result (spec.next_comment tt bytes.now).read }
@@ -72,7 +72,7 @@ fn next_comment(bytes: &[u8]) -> Result<(bool, &[u8]), Stop>
     }
 }
 
-/// What stands behind white space and comments.
+/// Skips white space and comments.
 pub(crate) fn after_misc(bytes: &[u8]) -> Result<&[u8], Stop>
     ensures { Gives (λ x. x.now) fault_in result (spec.misc bytes.now).read }
 {
@@ -98,7 +98,7 @@ fn expect_nothing(bytes: &[u8]) -> Result<(), Stop>
     }
 }
 
-/// Nothing may follow white space and comments behind the root.
+/// Checks that only white space and comments follow the root.
 #[tactic(auto, unfolding(mpd_tree::specs::Grammar::ending))]
 pub(crate) fn expect_end(bytes: &[u8]) -> Result<(), Stop>
     ensures { Gives (λ x. x) fault_in result (spec.ending bytes.now).read }

@@ -1,4 +1,4 @@
-// From bytes to a tree.
+// Reading bytes into a tree.
 ghost use Rattle.std.specs.Prelude.{◌≡◌, ◌++◌, [], All, IfOk, IfErr, IfSome, MatchResult, OnOk, Ok, Err};
 ghost use Rattle.std.specs.String.{string_bytes};
 ghost use Rattle.bridge_io.specs.Answer.{Gives};
@@ -22,17 +22,17 @@ use mpd_tree::{Rows, Stop, TextFault, Tree};
 use std::alloc::Global;
 
 /// The tree that the bytes spell as an XML 1.0 text in UTF-8, without document type, CDATA section and processing
-/// instruction, and with at most 32 elements inside one another.
+/// instruction, with elements nested at most 32 deep.
 ///
-/// It is wider than XML 1.0 in four places: `]]>` may stand in content (2.4), a comment may end in `--->` (2.5), a name
-/// may have any character from U+0080 on at any place (2.3), and the declaration's content isn't read (2.8), so that an
-/// encoding that is declared there changes nothing.
+/// It accepts these constructs that XML 1.0 forbids: `]]>` in content (2.4), a comment that ends in `--->` (2.5), names
+/// with any character from U+0080 on at any position (2.3), and any declaration (2.8): its content isn't read, so an
+/// encoding that is declared there has no effect.
 ///
 /// # Errors
 ///
-/// The one fault of the bytes, with its place, in the order that [`TextFault`] tells; [`TextFault::Depth`] is that of
-/// an element inside of 32 others. [`TextFault::Memory`] where memory is wanting, or a place in the text or a count of
-/// its elements or attributes has no number below 2^32.
+/// The one fault of the bytes, with its position, in the order of [`TextFault`]; [`TextFault::Depth`] is that of an
+/// element nested inside 32 others. [`TextFault::Memory`] where memory runs out, or a position in the text or a count
+/// of its elements or attributes isn't below 2^32.
 pub fn read_tree(alloc: Global, bytes: &[u8]) -> Result<Tree, TextFault>
     ensures reading { Gives root_of refusal result (reading_of bytes.now) }
     ensures tree { IfOk result (λ tree. Spells (root_of tree) bytes.now) }
@@ -42,7 +42,7 @@ pub fn read_tree(alloc: Global, bytes: &[u8]) -> Result<Tree, TextFault>
     tree_from_bytes(alloc, Bytes::from(bytes))
 }
 
-/// The tree that the bytes spell, which takes them over: it is [`read_tree`] of them, and the text isn't copied.
+/// The same as [`read_tree`], but moves the bytes into the tree instead of copying them.
 ///
 /// # Errors
 ///
@@ -58,7 +58,7 @@ pub fn tree_from_bytes(alloc: Global, bytes: Bytes) -> Result<Tree, TextFault>
     Ok(tree)
 }
 
-/// The rows of a text without a character that no text may have.
+/// The rows of a text that has only allowed characters.
 fn read_text(alloc: Global, text: &str) -> Result<Rows, TextFault>
     requires { IsClean text.now }
     ensures reading { Gives (root_in text.now) refusal result (reading_of text.now) }

@@ -26,7 +26,7 @@ fn is_hex_digit(b: u8) -> bool
     is_digit(b) || (65 <= b && b <= 70) || (97 <= b && b <= 102)
 }
 
-/// What a digit is worth.
+/// The value of a digit.
 fn value_of_digit(b: u8) -> u32
     ensures value { result ≡ value_of_digit b }
     ensures small { result ≤ 255 }
@@ -40,7 +40,7 @@ fn value_of_digit(b: u8) -> u32
     }
 }
 
-/// The number of these digits, or one past all characters where it is larger.
+/// The number of these digits, capped at one past all characters.
 fn number_of(base: u32, digits: &[u8]) -> u32
     requires { base ≤ 16 }
     ensures { result ≡ spec.capped_number base digits.now }
@@ -52,7 +52,7 @@ fn number_of(base: u32, digits: &[u8]) -> u32
     number
 }
 
-/// The character of that number, where a text may have it.
+/// The character of that number, where it is allowed.
 fn allowed(number: u32) -> Option<char>
     ensures { result ≡ spec.allowed number }
 {
@@ -63,7 +63,7 @@ fn allowed(number: u32) -> Option<char>
     char::from_u32(number)
 }
 
-/// The character that these bytes name by a number, where all of them are digits: so many stand at the front.
+/// The character whose number these bytes are, where all of them are digits; `len` is the number of leading digits.
 fn named_if_all(base: u32, len: usize, digits: &[u8]) -> Option<char>
     requires { base ≤ 16 }
     ensures { result ≡ spec.named_if_all base len digits.now }
@@ -99,7 +99,7 @@ fn named_by_digits(digits: &[u8]) -> Option<char>
     }
 }
 
-/// The character that is named by what stands between `&` and `;`.
+/// The character that the text between `&` and `;` refers to.
 fn referred_to(name: &[u8]) -> Option<char>
     ensures { result ≡ referred_to name.now }
 {
@@ -124,7 +124,7 @@ fn referred_to(name: &[u8]) -> Option<char>
     }
 }
 
-/// How many bytes are the same at the front of both.
+/// The length of the common prefix.
 pub(crate) fn common(word: &[u8], bytes: &[u8]) -> usize
     ensures same { result ≡ runs.common word.now bytes.now }
     ensures within { result ≤ length bytes.now }
@@ -152,7 +152,7 @@ fn hex_digits_len(digits: &[u8]) -> usize
     digits.iter().take_while(|b| is_hex_digit(**b)).count()
 }
 
-/// The same behind `#`.
+/// The same after `#`.
 fn front_of_digits(digits: &[u8]) -> usize
     ensures len { result ≡ spec.front_of_digits digits.now }
     ensures within { result ≤ length digits.now }
@@ -163,7 +163,7 @@ fn front_of_digits(digits: &[u8]) -> usize
     }
 }
 
-/// How far some reference goes on so behind its `&`.
+/// How many bytes after a `&` are a prefix of some valid reference.
 #[cold]
 fn front_len(bytes: &[u8]) -> usize
     ensures len { result ≡ spec.front_len bytes.now }
@@ -213,7 +213,7 @@ fn named_of<'a>(
     }
 }
 
-/// The character of the reference behind whose `&` the bytes stand. So many are left from the `&` on.
+/// Reads a reference after its `&`. `left` bytes are left from its `&`.
 #[tactic(auto, unfolding(mpd_tree::specs::Grammar::reference, mpd_tree::specs::References::reference_at))]
 pub(crate) fn reference_of(left: usize, bytes: &[u8]) -> Result<(char, &[u8]), Stop>
     ensures { Gives (λ x. (x.0, x.1.now)) fault_in result (reference left bytes.now).read }

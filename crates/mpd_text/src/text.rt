@@ -1,4 +1,4 @@
-// Values and character data, each up to the byte that ends it.
+// Values and character data, up to the byte that ends them.
 ghost use Rattle.std.specs.Prelude.{◌≡◌, IfOk, IsTrue};
 ghost use Rattle.std.specs.String.{string_bytes};
 ghost use Rattle.bridge_io.specs.Answer.{Gives};
@@ -12,7 +12,7 @@ use crate::references::reference_of;
 use byte_scan::{ByteSet, first_of_set};
 use mpd_tree::{Stop, syntax};
 
-/// What stands before the first byte that needs a look, and from it on.
+/// The bytes before the first one that ends plain text, and the bytes from it on.
 pub(crate) fn plain_of<'a>(marks: &ByteSet, bytes: &'a [u8]) -> (&'a [u8], &'a [u8])
     ensures plain { result.0.now ≡ (runs.plain_at marks.now bytes.now).0 }
     ensures rest { result.1.now ≡ (runs.plain_at marks.now bytes.now).1 }
@@ -27,7 +27,7 @@ fn line_end(stop: u8) -> char
     if stop == b'<' { '\n' } else { ' ' }
 }
 
-/// A LF behind a CR is read with it.
+/// Skips the LF of a CR LF.
 fn after_line_feed(bytes: &[u8]) -> &[u8]
     ensures { result.now ≡ runs.after_line_feed bytes.now }
 {
@@ -37,7 +37,7 @@ fn after_line_feed(bytes: &[u8]) -> &[u8]
     }
 }
 
-/// Adds what the byte at the front stands for, which needed a look; whether it ends the text.
+/// Appends what the leading byte, which ended plain text, stands for; whether it ends the text.
 #[tactic(auto, unfolding(mpd_tree::specs::Grammar::marked))]
 fn add_marked<'a>(stop: u8, bytes: &'a [u8], read: &mut String) -> Result<(bool, &'a [u8]), Stop>
     ensures { Gives (λ x. (string_bytes read.new, x.0, x.1.now)) fault_in result
@@ -62,7 +62,7 @@ fn add_marked<'a>(stop: u8, bytes: &'a [u8], read: &mut String) -> Result<(bool,
     }
 }
 
-/// Adds what the text at the front of the bytes is read as, and answers where it ends: they are the end of the source.
+/// Appends what the leading text is read as, and returns the bytes from its end on. `bytes` is a suffix of the source.
 pub(crate) fn add_text<'a>(
     source: &str,
     stop: u8,

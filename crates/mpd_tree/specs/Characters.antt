@@ -1,5 +1,5 @@
--- The bytes of an XML text by their parts in the grammar. All bytes from 128 on stand alike in it, so a character
--- outside of ASCII is taken as its bytes.
+-- The bytes of an XML text by their role in the grammar. All bytes from 128 on have the same role, so a non-ASCII character
+-- is taken as its bytes.
 use Rattle.std.specs.Prelude.{◌≡◌, ◌<◌, length, drop, ℕ, Bool, true, false, ◌==◌, ◌&&◌, ◌||◌, nat_le, List, [], ◌∷◌, if◌then◌else◌}
 use Rattle.std.specs.{Prelude.{Option, Some, None, option_map, min, suc, nat_eq}, List.{list_all, list_any, starts_with}}
 use Rattle.byte_scan.specs.Class.{is_low_control}
@@ -26,12 +26,12 @@ abbrev pub is_name : List ℕ → Bool
 is_name [] = false
 is_name (b ∷ bs) = starts_name b && list_all goes_on_name bs
 
--- the bytes have these at some place
+-- the bytes contain these
 abbrev pub has : List ℕ → List ℕ → Bool
 has part [] = starts_with nat_eq [] part
 has part (b ∷ bs) = starts_with nat_eq (b ∷ bs) part || has part bs
 
--- the bytes have this byte
+-- the bytes contain this byte
 abbrev pub has_byte : ℕ → List ℕ → Bool
 has_byte b bytes = list_any (λ c. c == b) bytes
 
@@ -39,7 +39,7 @@ has_byte b bytes = list_any (λ c. c == b) bytes
 unfoldable pub begins_with_noncharacter : List ℕ → Bool
 begins_with_noncharacter bytes = starts_with nat_eq bytes (239 ∷ 191 ∷ 190 ∷ []) || starts_with nat_eq bytes (239 ∷ 191 ∷ 191 ∷ [])
 
--- the bytes begin with a character that no text may have: below 0x20 and none of tab, LF and CR, or one of those two
+-- the bytes begin with a character that is never allowed: below 0x20 except tab, LF and CR, or one of those two
 unfoldable pub begins_with_bad_character : List ℕ → Bool
 begins_with_bad_character [] = false
 begins_with_bad_character (b ∷ bs) = is_low_control b || begins_with_noncharacter (b ∷ bs)
@@ -49,13 +49,13 @@ abbrev pub first_bad_character : List ℕ → Option ℕ
 first_bad_character [] = None
 first_bad_character (b ∷ bs) = if begins_with_bad_character (b ∷ bs) then Some 0 else option_map suc (first_bad_character bs)
 
--- where a noncharacter begins for the first time, or never
+-- where the first noncharacter begins, or `None`
 abbrev pub IsFirstNoncharacter : List ℕ → Option ℕ → Type 0
 IsFirstNoncharacter bytes None = (j : ℕ) → begins_with_noncharacter (drop j bytes) ≡ false
 IsFirstNoncharacter bytes (Some k) = (k < length bytes) × (begins_with_noncharacter (drop k bytes) ≡ true)
     × ((j : ℕ) → j < k → begins_with_noncharacter (drop j bytes) ≡ false)
 
--- the lesser of two places that may be there
+-- the lesser of two optional offsets
 abbrev pub lesser : Option ℕ → Option ℕ → Option ℕ
 lesser None other = other
 lesser (Some k) None = Some k

@@ -1,4 +1,4 @@
--- Texts as they are written into values and content.
+-- Escaping of texts for values and content.
 use Rattle.std.specs.{Prelude.{ℕ, ◌==◌, IsTrue, nat_le, List, [], ◌∷◌, ◌++◌, codes, if◌then◌else◌, flat_map}, List.list_all}
 use Rattle.mpd_tree.specs.Grammar.{value}
 
@@ -13,7 +13,7 @@ escape_of b =
 unfoldable pub escape_all : List ℕ → List ℕ
 escape_all text = flat_map escape_of text
 
--- a text without characters below U+0020 is what its escaped form reads as before a `"`
+-- the escaped form of a text without characters below U+0020, before a `"`, reads back as the text
 abbrev pub IsReadBack : List ℕ → Type 0
 IsReadBack text = IsTrue (list_all (λ b. nat_le 32 b) text) → (rest : List ℕ)
     → (value 34 (escape_all text ++ 34 ∷ rest)).spells (text, rest)

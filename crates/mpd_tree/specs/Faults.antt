@@ -8,7 +8,7 @@ use Rattle.mpd_tree.specs.declared.stop.Wrong.TheVariants.{Syntax, TagMismatch, 
 use Rattle.mpd_tree.specs.{declared.stop.Wrong.TheVariants.Depth, Characters.first_bad_character, Trees.Element}
 use Rattle.mpd_tree.specs.{Positions.{Position, place_before, fault_at}, Grammar.{IsClean, IsDocument, Spells, document}}
 
--- a fault by its name
+-- a fault by its kind
 abbrev pub named_fault : Wrong → Place → TextFault
 named_fault Syntax place = faults.Syntax place
 named_fault TagMismatch place = faults.TagMismatch place
@@ -19,17 +19,17 @@ named_fault Cdata place = faults.Cdata place
 named_fault Instruction place = faults.Instruction place
 named_fault Depth place = faults.Depth place
 
--- where no byte is left that decides it, the text is cut
+-- where no byte is left that decides it, the text is truncated
 abbrev pub placed : List ℕ → Fault → TextFault
 placed whole f =
     if f.decided == 0 then faults.Cut (place_of whole (length whole)) else named_fault f.wrong (place_before whole f.told)
 
--- up to where the bytes are open at most
+-- the longest prefix of the bytes that can still be continued
 pub record IsLongestOpen (bytes : List ℕ) (at : Position) : Type 0 where
   pub is_open : (document bytes).is_open at
   pub longest : (other : Position) → (document bytes).is_open other → length at.rest ≤ length other.rest
 
--- a byte follows that cannot, or the file ends, and is no whole text
+-- a byte follows that can't, or the file ends before the text is complete
 pub record IsRefused (bytes : List ℕ) (fault : TextFault) : Type 0 where
   pub at : Position
   pub is_longest : IsLongestOpen bytes at
@@ -46,8 +46,8 @@ pub record HasBadCharacter (bytes : List ℕ) (fault : TextFault) : Type 0 where
   pub is_first : first_bad_character bytes ≡ Some at
   pub fault_is : fault ≡ faults.BadChar (place_of bytes at)
 
--- The whole file is looked over for bytes that are not UTF-8, and then for characters that no text may have, before
--- anything is decided from the left; and the end of the file is decided last.
+-- The whole file is searched for bytes that aren't UTF-8, and then for characters that are never allowed, before anything
+-- is decided from the left; the end of the file is decided last.
 abbrev pub HasFault : List ℕ → TextFault → Type 0
 HasFault bytes fault = IsNotUtf8 bytes fault ⊎ HasBadCharacter bytes fault ⊎ (IsClean bytes × IsRefused bytes fault)
 
@@ -56,7 +56,7 @@ abbrev pub ReadsAs : List ℕ → Result Element TextFault → Type 0
 ReadsAs bytes (Ok root) = Spells root bytes
 ReadsAs bytes (Err fault) = HasFault bytes fault
 
--- want of memory tells nothing of the text
+-- out of memory says nothing about the text
 abbrev pub refusal : TextFault → Option TextFault
 refusal faults.Memory = None
 refusal fault = Some fault

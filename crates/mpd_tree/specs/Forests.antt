@@ -1,9 +1,9 @@
--- Rows as they are shown, and those of elements side by side.
+-- The values of rows, and the rows of sibling elements.
 use Rattle.std.specs.Prelude.{ℕ, suc, ◌+◌, List, [], ◌∷◌, ◌++◌, length}
 use Rattle.mpd_tree.specs.{declared.tree.AttributeRow.AttributeRow, declared.tree.ElementRow.ElementRow}
 use Rattle.mpd_tree.specs.{Trees.{Head, Forest, nothing, element}, Heads.head_of}
 
--- an element without its content, and the row behind those inside it
+-- an element without its content, and the row after those inside it
 pub record Shown : Type 0 where
   pub head : Head
   pub next : ℕ
@@ -11,7 +11,7 @@ pub record Shown : Type 0 where
 abbrev pub shown_of : (source kept : List ℕ) → List AttributeRow → ElementRow → Shown
 shown_of source kept attributes row = record { head = head_of source kept attributes row; next = row.next }
 
--- elements side by side from the row at `at` on: each is followed by those inside it
+-- sibling elements from the row at `at` on: each is followed by those inside it
 abbrev pub flat : ℕ → Forest → List Shown
 flat at nothing = []
 flat at (element head children others) =

@@ -1,10 +1,10 @@
--- The grammar of the text of an MPD: XML 1.0 in UTF-8 without document types, CDATA sections and processing
--- instructions. A place is told by the bytes that are left there, of the whole. A run (white space, a name, plain text) is as
--- long as it can be, and where one of several things may stand its first byte tells which.
+-- The grammar of the text of an MPD: XML 1.0 in UTF-8 without document types, CDATA sections and processing instructions. A
+-- position is given by the number of bytes left from it to the end of the whole. A run (white space, a name, plain text) is
+-- as long as possible, and where one of several things may follow, its first byte decides which.
 --
--- It takes some texts that XML 1.0 does not: `]]>` in content (2.4), a comment that ends in `--->` (2.5), names with any
--- character from U+0080 on at any place (2.3), and any declaration (2.8): its content isn't read, and an encoding that is
--- declared there changes nothing.
+-- It accepts these constructs that XML 1.0 forbids: `]]>` in content (2.4), a comment that ends in `--->` (2.5), names with
+-- any character from U+0080 on at any position (2.3), and any declaration (2.8): its content isn't read, and an encoding that
+-- is declared there has no effect.
 use Rattle.mpd_tree.specs.Pieces as pieces
 use Rattle.std.specs.Prelude.{◌≡◌, ◌<◌, ◌≤◌, ℕ, zero, suc, ◌==◌, ◌||◌, ◌&&◌, Bool, true, false, IsTrue, not, ◌⊎◌, List, [], ◌∷◌, ◌++◌}
 use Rattle.std.specs.Prelude.{length, codes, drop, encode_utf8, Some, None, IsUtf8, nat_eq, nat_lt, bytes_eq, if◌then◌else◌}
@@ -23,25 +23,25 @@ greater_than bytes = first anywhere 0 bytes λ b bs otherwise. choose (b == 62) 
 
 -- ---- comments and declarations
 
--- behind the `--` at a comment's end: `>`, or `->`
+-- after the `--` at a comment's end: `>`, or `->`
 unfoldable pub behind_dashes : List ℕ → Production (List ℕ)
 behind_dashes bytes = first anywhere 0 bytes λ b bs otherwise. choose (b == 45) (greater_than bs) (greater_than bytes)
 
--- up to the first place where these two bytes stand side by side
+-- after the first occurrence of these two bytes next to each other
 unfoldable pub behind_two : ℕ → ℕ → List ℕ → Production (List ℕ)
 behind_two one other [] = refused (here [])
 behind_two one other (b ∷ bs) =
     from (here (b ∷ bs)) (choose (b == one && begins other bs) (from (here bs) (just (drop 1 bs))) (behind_two one other bs))
 
--- behind `<!-`: a comment ends at the first `--`
+-- after `<!-`: a comment ends at the first `--`
 unfoldable pub second_dash : List ℕ → Production (List ℕ)
 second_dash bytes = first anywhere 0 bytes λ b bs otherwise. choose (b == 45) (behind_two 45 45 bs >> behind_dashes) otherwise
 
--- a comment behind its `<!`, from whose `<` on so many bytes are left
+-- a comment after its `<!`, where `left` bytes are left from its `<`
 unfoldable pub comment : ℕ → List ℕ → Production (List ℕ)
 comment left bytes = first behind_exclamation left bytes λ b bs otherwise. choose (b == 45) (second_dash bs) otherwise
 
--- behind `<?xml`: up to the first `?>`
+-- after `<?xml`: up to the first `?>`
 unfoldable pub declared : ℕ → List ℕ → Production (List ℕ)
 declared left bytes = first in_instruction left bytes λ b bs otherwise. choose (is_white b) (behind_two 63 62 bs) otherwise
 
@@ -59,21 +59,21 @@ behind_word left bytes =
     choose (common word bytes == 3) (declared left (drop 3 bytes))
     (refused (record { kind = in_instruction; start = left; rest = drop (common word bytes) bytes }))
 
--- a declaration behind its `<?`, from whose `<` on so many bytes are left
+-- a declaration after its `<?`, where `left` bytes are left from its `<`
 unfoldable pub declaration : ℕ → List ℕ → Production (List ℕ)
 declaration left bytes =
     let behind = behind_word left bytes in record behind { is_open = λ p. IsInWord left bytes p ⊎ behind.is_open p }
 
 -- ---- values and character data
 
--- a reference behind its `&`: the character that its name stands for
+-- a reference after its `&`: the character that its name stands for
 pub record IsReference (bytes : List ℕ) (x : ℕ × List ℕ) : Type 0 where
   pub name : List ℕ
   pub bytes_are : bytes ≡ name ++ 59 ∷ x.1
   pub is_first : IsTrue (not (has_byte 59 name))
   pub refers : referred_to name ≡ Some x.0
 
--- as far as some reference goes on so
+-- within a prefix of some valid reference
 pub record IsInReference (left : ℕ) (bytes : List ℕ) (p : Position) : Type 0 where
   pub count : ℕ
   pub goes_on : count ≤ front_len bytes
@@ -86,12 +86,12 @@ reference left bytes = record { spells = IsReference bytes; is_open = IsInRefere
 abbrev pub line_end : ℕ → ℕ
 line_end stop = if stop == 60 then 10 else 32
 
--- behind CR, and between it and an LF
+-- after CR, and between it and an LF
 abbrev pub behind_return : List ℕ → List ℕ → Production (List ℕ × Bool × List ℕ)
 behind_return read bytes =
     record (just (read, false, after_line_feed bytes)) { is_open = λ p. (more : List ℕ) × (bytes ≡ 10 ∷ more) × (p ≡ here bytes) }
 
--- behind plain text: its end before the stop; a reference; a line end; or the white space of a value, which reads as a space
+-- after plain text: its end before the stop; a reference; a line end; or the white space of a value, which reads as a space
 unfoldable pub marked : ℕ → List ℕ → List ℕ → Production (List ℕ × Bool × List ℕ)
 marked stop read [] = refused (here [])
 marked stop read (b ∷ bs) =
@@ -105,7 +105,7 @@ abbrev pub part : List ℕ → ℕ → List ℕ → List ℕ → Production (Lis
 part marks stop read bytes =
     behind_run bytes (plain_at marks bytes).1 (marked stop (read ++ (plain_at marks bytes).0) (plain_at marks bytes).1)
 
--- text up to a stop, behind what is read of it: a value's quote, or the `<` behind character data
+-- text up to a stop, after what is read of it: a value's quote, or the `<` after character data
 abbrev pub text : List ℕ → List ℕ → ℕ → List ℕ → Production (List ℕ × List ℕ)
 text read marks stop bytes = many (part marks stop) read bytes
 
@@ -135,7 +135,7 @@ equals bytes = behind_run bytes (after_white bytes) (equals_sign (after_white by
 unfoldable pub quote_mark : List ℕ → Production (ℕ × List ℕ)
 quote_mark bytes = first anywhere 0 bytes λ b bs otherwise. choose (b == 34 || b == 39) (just (b, bs)) otherwise
 
--- an attribute from its name on, behind those before
+-- an attribute from its name on, after those before it
 unfoldable pub attribute : List ℕ → List Attribute → List ℕ → Production (List Attribute × List ℕ)
 attribute whole before bytes =
     new_name (names_of before) bytes >> λ name.
@@ -144,7 +144,7 @@ attribute whole before bytes =
     as_read (value quote.0 quote.1) λ found.
     (before ++ record { name = name.0; value = found.0; place = place_before whole (length bytes) } ∷ [], found.1)
 
--- an attribute behind white space, or the tag's end: `>` or `/`
+-- an attribute after white space, or the tag's end: `>` or `/`
 abbrev pub behind_white : List ℕ → List Attribute → Bool → List ℕ → Production (List Attribute × Bool × List ℕ)
 behind_white whole before white [] = refused (here [])
 behind_white whole before white (b ∷ bs) =
@@ -159,12 +159,12 @@ next_attribute whole before bytes = behind_run bytes (after_white bytes)
 abbrev pub attributes : List ℕ → List ℕ → Production (List Attribute × List ℕ)
 attributes whole bytes = many (next_attribute whole) [] bytes
 
--- `>` or `/>`, and whether it is that of an empty element
+-- `>` or `/>`, and whether it ends an empty element
 unfoldable pub tag_end : List ℕ → Production (Bool × List ℕ)
 tag_end bytes = first anywhere 0 bytes λ b bs otherwise.
     choose (b == 47) (as_read (greater_than bs) (λ rest. (true, rest))) (as_read (greater_than bytes) (λ rest. (false, rest)))
 
--- a start tag or an empty one from its name on; `left` is left from its `<` on
+-- a start tag or an empty one from its name on; `left` bytes are left from its `<`
 unfoldable pub tag : List ℕ → ℕ → List ℕ → Production (Piece × List ℕ)
 tag whole left bytes = behind_run bytes (name_at bytes).1 (
     attributes whole (name_at bytes).1 >> λ found.
@@ -175,21 +175,21 @@ unfoldable pub end_name : List ℕ → ℕ → List ℕ → Production (List ℕ
 end_name name left bytes = behind_run bytes (name_at bytes).1 (choose (bytes_eq (name_at bytes).0 name) (just (name_at bytes).1)
     (refused (record { kind = behind_other_name; start = left; rest = (name_at bytes).1 })))
 
--- an end tag behind its `</`
+-- an end tag after its `</`
 unfoldable pub end_tag : List ℕ → ℕ → List ℕ → Production (List ℕ)
 end_tag name left bytes = first anywhere 0 bytes λ b bs otherwise. choose (starts_name b)
     (end_name name left bytes >> λ rest. behind_run rest (after_white rest) (greater_than (after_white rest))) otherwise
 
 -- ---- elements
 
--- what stands behind a `<` inside an element of that name, with room for so many elements inside one another
+-- what follows a `<` inside an element of that name, with room for a number of nesting levels
 unfoldable pub piece : List ℕ → ℕ → List ℕ → ℕ → List ℕ → Production (Piece × List ℕ)
 piece whole room name left bytes = first (behind_less_than (room == 0)) left bytes λ b bs otherwise.
     choose (b == 47) (as_read (end_tag name left bs) (λ rest. (pieces.ended, rest)))
     (choose (b == 33) (as_read (comment left bs) (λ rest. (pieces.comment, rest)))
     (choose (b == 63) otherwise (choose (starts_name b) (choose (room == 0) otherwise (tag whole left bytes)) otherwise)))
 
--- what a piece adds to what stands before it, and whether the element ends
+-- what a piece adds to what is before it, and whether the element ends
 abbrev pub added : (List ℕ → List ℕ → Production (Inside × List ℕ)) → Inside → Piece × List ℕ → Production (Inside × Bool × List ℕ)
 added inner before (pieces.ended, rest) = just (before, true, rest)
 added inner before (pieces.comment, rest) = just (before, false, rest)
@@ -205,7 +205,7 @@ next_inside inner whole room name before bytes =
     text before.text marked_in_content 60 bytes >> λ found.
     from (here found.1) (piece whole room name (length found.1) (drop 1 found.1) >> added inner (record before { text = found.0 }))
 
--- the content of an element of that name, and its end tag, where so many elements may stand inside one another, this one too
+-- the content of an element of that name, and its end tag, with room for a number of nesting levels, including this one
 unfoldable pub inside : ℕ → List ℕ → List ℕ → List ℕ → Production (Inside × List ℕ)
 inside zero whole name bytes = refused (here [])
 inside (suc room) whole name bytes = many (next_inside (inside room whole) whole room name) nothing_inside bytes
@@ -218,7 +218,7 @@ element whole (pieces.empty head, rest) = just (record { head = head; children =
 element whole (pieces.begun head, rest) = as_read (inside 32 whole head.name rest)
     (λ i. (record { head = record head { text = i.0.text }; children = i.0.children }, i.1))
 
--- the root behind its `<`
+-- the root after its `<`
 unfoldable pub behind_root_start : List ℕ → ℕ → List ℕ → Production (Element × List ℕ)
 behind_root_start whole left bytes = first (behind_less_than false) left bytes λ b bs otherwise.
     choose (b == 63) otherwise (choose (starts_name b) (tag whole left bytes >> element whole) otherwise)
@@ -233,7 +233,7 @@ unfoldable pub beginning : List ℕ → Production (List ℕ)
 beginning bytes = choose (starts_with nat_eq (after_mark bytes) (codes "<?"))
     (declaration (length (after_mark bytes)) (drop 2 (after_mark bytes))) (just (after_mark bytes))
 
--- a comment and white space behind it, or none any more
+-- a comment and the white space after it, or no further one
 unfoldable pub next_comment : Unit {0} → List ℕ → Production (Unit {0} × Bool × List ℕ)
 next_comment _ bytes = choose (starts_with nat_eq bytes (codes "<!"))
     (comment (length bytes) (drop 2 bytes) >> λ behind. behind_run behind (after_white behind) (just (tt, false, after_white behind)))
@@ -252,7 +252,7 @@ at_end (b ∷ bs) = from (here (b ∷ bs))
 unfoldable pub ending : List ℕ → Production (Unit {0})
 ending bytes = misc bytes >> at_end
 
--- the root, and nothing around it but white space and comments
+-- the root, with only white space and comments around it
 unfoldable pub document : List ℕ → Production Element
 document whole =
     beginning whole >> λ behind.
@@ -263,7 +263,7 @@ document whole =
 abbrev pub IsDocument : Element → List ℕ → Type 0
 IsDocument tree bytes = (document bytes).spells tree
 
--- UTF-8 without a character that no text may have
+-- UTF-8 without a character that is never allowed
 pub record IsClean (bytes : List ℕ) : Type 0 where
   pub utf8 : IsUtf8 bytes
   pub no_bad_character : first_bad_character bytes ≡ None

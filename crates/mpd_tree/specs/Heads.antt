@@ -1,10 +1,10 @@
--- What single rows show.
+-- The values of single rows.
 use Rattle.std.specs.Prelude.{ℕ, ◌-◌, List, map, slice_range}
 use Rattle.bridge_io.specs.Places.{place_of}
 use Rattle.mpd_tree.specs.{declared.tree.KeptSpan.KeptSpan, declared.tree.ElementRow.ElementRow, declared.tree.AttributeRow.AttributeRow}
 use Rattle.mpd_tree.specs.Trees.{Attribute, Head}
 
--- what is kept: the source, and behind it what was read otherwise than it stands there
+-- the stored text: the source, and after it what differs from the source once read
 abbrev pub bytes_of : List ℕ → KeptSpan → List ℕ
 bytes_of kept span = slice_range kept span.start span.end
 

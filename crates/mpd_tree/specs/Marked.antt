@@ -1,4 +1,4 @@
--- The bytes that need a look.
+-- The bytes that end plain text.
 use Rattle.std.specs.Prelude.{ℕ, List, [], ◌∷◌, ◌++◌, codes}
 
 -- in content, and in a value between such quotes

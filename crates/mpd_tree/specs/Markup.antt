@@ -1,21 +1,21 @@
--- Elements as they are written: XML 1.0 in which each tag stands in a line of its own and an element without children is
--- an empty tag (2.1 and 3.1).
+-- Elements as they are written: XML 1.0 with each tag on its own line; an element without children is an empty tag (2.1 and
+-- 3.1).
 use Rattle.std.specs.Prelude.{ℕ, List, [], ◌++◌, codes, flat_map}
 use Rattle.mpd_tree.specs.Escapes.{escape_all}
 
--- an element as it is written, but for the elements in it and after it: its name, its attributes by name with the value
--- that they mean
+-- an element as it is written, without the elements in it and after it: its name, and its attributes by name with their
+-- unescaped values
 pub record Tag : Type 0 where
   pub name : List ℕ
   pub attributes : List (List ℕ × List ℕ)
 
--- elements in one parent from some place on
+-- sibling elements from one of them on
 pub data Markup : Type 0 where
   nothing : Markup
-  -- the element, what stands in it, what comes after it
+  -- the element, its children, the siblings after it
   element : Tag → Markup → Markup → Markup
 
--- a space, the name, and the escaped value between `="` and `"`
+-- a space, the name, and the escaped value, as ` name="value"`
 abbrev pub attribute_text : List ℕ × List ℕ → List ℕ
 attribute_text attribute = codes " " ++ attribute.0 ++ codes "=\"" ++ escape_all attribute.1 ++ codes "\""
 
@@ -23,7 +23,7 @@ attribute_text attribute = codes " " ++ attribute.0 ++ codes "=\"" ++ escape_all
 abbrev pub opening : Tag → List ℕ
 opening tag = codes "<" ++ tag.name ++ flat_map attribute_text tag.attributes
 
--- an element, of which the children are printed
+-- an element, given its printed children
 abbrev pub enclosed : Tag → Markup → List ℕ → List ℕ
 enclosed tag nothing inside = opening tag ++ codes "/>"
 enclosed tag (element first within after) inside = opening tag ++ codes ">" ++ (codes "\n" ++ inside)

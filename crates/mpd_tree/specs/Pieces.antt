@@ -1,8 +1,8 @@
--- What stands inside an element.
+-- What is inside an element.
 use Rattle.std.specs.Prelude.{ℕ, Bool, true, false, List, []}
 use Rattle.mpd_tree.specs.Trees.{Head, Forest, nothing, element}
 
--- what stands behind some character data; an element without its content
+-- what follows some character data; an element without its content
 pub data Piece : Type 0 where
   ended : Piece
   comment : Piece
@@ -13,7 +13,7 @@ abbrev pub tag_piece : Bool → Head → Piece
 tag_piece true head = empty head
 tag_piece false head = begun head
 
--- what is inside an element: the elements, and the character data directly inside it
+-- what is inside an element: its children, and the character data directly inside it
 pub record Inside : Type 0 where
   pub children : Forest
   pub text : List ℕ
@@ -21,7 +21,7 @@ pub record Inside : Type 0 where
 abbrev pub nothing_inside : Inside
 nothing_inside = record { children = nothing; text = [] }
 
--- elements side by side, and more behind them
+-- sibling elements, and more after them
 abbrev pub followed_by : Forest → Forest → Forest
 followed_by nothing more = more
 followed_by (element head children others) more = element head children (followed_by others more)

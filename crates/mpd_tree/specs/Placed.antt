@@ -1,4 +1,4 @@
--- What is read of elements that are printed.
+-- What printed elements are read as.
 use Rattle.mpd_tree.specs.Trees as tree
 use Rattle.std.specs.Prelude.{◌≡◌, ◌≤◌, ℕ, suc, ◌+◌, ◌==◌, max, nat_le, IsTrue, not, ⊤, List, [], ◌∷◌, ◌++◌, map, length, count_by, codes}
 use Rattle.std.specs.{Prelude.Ok, List.list_all}
@@ -6,13 +6,13 @@ use Rattle.bridge_io.specs.{declared.place.Place.Place, Texts.is_among}
 use Rattle.mpd_tree.specs.{Characters.is_name, Trees.{Attribute, Head, Forest, Element}, Grammar.IsClean, Meaning.reading_of}
 use Rattle.mpd_tree.specs.Markup.{Tag, Markup, nothing, element, attribute_text, opening, enclosed, printed, declaration, document}
 
--- ---- places, and names that differ
+-- ---- positions, and names that differ
 
 -- the file's first byte
 abbrev pub first_place : Place
 first_place = record { at = 0; line = 1 }
 
--- the place behind some bytes
+-- the position after some bytes
 abbrev pub past : Place → List ℕ → Place
 past place bytes = record { at = place.at + length bytes; line = place.line + count_by (λ b. b == 10) bytes }
 
@@ -20,25 +20,25 @@ abbrev pub AllDiffer : List (List ℕ) → Type 0
 AllDiffer [] = ⊤
 AllDiffer (name ∷ names) = IsTrue (not (is_among name names)) × AllDiffer names
 
--- the deepest element stands inside 31 others at most
+-- the deepest element is nested inside 31 others
 abbrev pub deepest : ℕ
 deepest = 32
 
 -- ---- what is read
 
--- attributes from a place on, each one's place behind its space
+-- attributes from a position on; each one's position is after its space
 abbrev pub attributes_at : Place → List (List ℕ × List ℕ) → List Attribute
 attributes_at here [] = []
 attributes_at here (attribute ∷ attributes) =
     record { name = attribute.0; value = attribute.1; place = past here (codes " ") } ∷ attributes_at
     (past here (attribute_text attribute)) attributes
 
--- the line feeds behind elements
+-- the line feeds after elements
 abbrev pub line_feeds : Markup → List ℕ
 line_feeds nothing = []
 line_feeds (element tag children others) = 10 ∷ line_feeds others
 
--- the text of an element with these children: one line feed before them and one behind each
+-- the text of an element with these children: one line feed before them and one after each
 abbrev pub text_round : Markup → List ℕ
 text_round nothing = []
 text_round (element tag children others) = 10 ∷ line_feeds (element tag children others)
@@ -51,7 +51,7 @@ head_at here tag children = record {
   text = text_round children;
 }
 
--- elements behind a line feed that stands at the place
+-- elements after a line feed at the position
 abbrev pub placed : Place → Markup → Forest
 placed here nothing = tree.nothing
 placed here (element tag children others) =
@@ -72,12 +72,12 @@ root_read tag children = record {
 
 -- ---- elements that can be written
 
--- a name, of characters that a text may have
+-- a name, of characters that are allowed
 pub record IsLegalName (name : List ℕ) : Type 0 where
   pub named : IsTrue (is_name name)
   pub clean : IsClean name
 
--- A value has no characters that a text may not have. Nor has it tab, LF and CR, which would be read as spaces.
+-- A value has only characters that are allowed, without tab, LF and CR, which would be read as spaces.
 pub record IsLegalAttribute (attribute : List ℕ × List ℕ) : Type 0 where
   pub name : IsLegalName attribute.0
   pub value : IsClean attribute.1
@@ -96,7 +96,7 @@ abbrev pub AreLegal : Markup → Type 0
 AreLegal nothing = ⊤
 AreLegal (element tag children others) = IsLegalTag tag × AreLegal children × AreLegal others
 
--- how many elements stand inside one another at most
+-- the greatest nesting depth
 abbrev pub levels : Markup → ℕ
 levels nothing = 0
 levels (element tag children others) = max (suc (levels children)) (levels others)
@@ -106,6 +106,6 @@ pub record IsLegal (tag : Tag) (children : Markup) : Type 0 where
   pub inside : AreLegal children
   pub shallow : suc (levels children) ≤ deepest
 
--- what is printed of elements is read as these elements
+-- printed elements are read as these elements
 abbrev pub PrintedAreRead : Type 0
 PrintedAreRead = (tag : Tag) (children : Markup) → IsLegal tag children → reading_of (document tag children) ≡ Ok (root_read tag children)

@@ -1,4 +1,4 @@
--- Why reading stops: at a fault, or for want of memory, which is none.
+-- Why reading stops: at a fault, or out of memory, which isn't a fault of the text.
 use Rattle.mpd_tree.specs.declared.stop.Stop.TheVariants as stops
 use Rattle.std.specs.Prelude.{Option, Some, None}
 use Rattle.mpd_tree.specs.{declared.stop.Fault.Fault, declared.stop.Stop.Stop}

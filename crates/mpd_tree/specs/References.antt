@@ -18,18 +18,18 @@ abbrev pub is_allowed_character : ℕ → Bool
 is_allowed_character c = c == 9 || c == 10 || c == 13 || (nat_le 32 c && nat_lt c 55296) || (nat_le 57344 c && nat_lt c 65534)
     || (nat_le 65536 c && nat_le c 1114111)
 
--- the character that a number names, where there is at least one digit and it is allowed
+-- the character of a number, where there is at least one digit and the character is allowed
 abbrev pub named_by_number : ℕ → (ℕ → Bool) → List ℕ → Option ℕ
 named_by_number base is_digit_of [] = None
 named_by_number base is_digit_of (d ∷ ds) =
     if list_all is_digit_of (d ∷ ds) && is_allowed_character (number_of base (d ∷ ds)) then Some (number_of base (d ∷ ds)) else None
 
--- behind `#`: digits, or `x` and hexadecimal digits
+-- after `#`: digits, or `x` and hexadecimal digits
 abbrev pub named_by_digits : List ℕ → Option ℕ
 named_by_digits [] = None
 named_by_digits (b ∷ bs) = if b == 120 then named_by_number 16 is_hex_digit bs else named_by_number 10 is_digit (b ∷ bs)
 
--- the character that is named by what stands between `&` and `;`
+-- the character that the text between `&` and `;` refers to
 abbrev pub referred_to : List ℕ → Option ℕ
 referred_to [] = None
 referred_to (b ∷ bs) =
@@ -43,7 +43,7 @@ referred_to (b ∷ bs) =
 
 -- ---- reading
 
--- one past all characters stands for each larger number
+-- each number above all characters is capped at one past them
 abbrev pub with_digit : ℕ → ℕ → ℕ → ℕ
 with_digit base number digit = min 1114112 (base * number + value_of_digit digit)
 
@@ -53,7 +53,7 @@ capped_number base digits = fold (with_digit base) 0 digits
 abbrev pub allowed : ℕ → Option ℕ
 allowed c = if is_allowed_character c then Some c else None
 
--- the same, where as many digits stand at the front as there are bytes
+-- the same, where all of the bytes are digits
 abbrev pub named_if_all : ℕ → ℕ → List ℕ → Option ℕ
 named_if_all base len digits = if len == length digits then allowed (capped_number base digits) else None
 
@@ -66,12 +66,12 @@ front_of_name bytes =
     max (max (max (max (common (codes "amp") bytes) (common (codes "lt") bytes)) (common (codes "gt") bytes))
     (common (codes "quot") bytes)) (common (codes "apos") bytes)
 
--- how far some reference goes on so behind its `&`
+-- how many bytes after a `&` are a prefix of some valid reference
 abbrev pub front_len : List ℕ → ℕ
 front_len [] = 0
 front_len (b ∷ bs) = if b == 35 then front_of_digits bs + 1 else front_of_name (b ∷ bs)
 
--- the byte decides it behind which no reference goes on
+-- the fault is decided by the first byte that no valid reference has there
 abbrev pub entity : ℕ → List ℕ → Fault
 entity left bytes = fault Entity left (drop (front_len bytes) bytes)
 
@@ -86,6 +86,6 @@ abbrev pub named_in : Fault → List ℕ → List ℕ → Result (ℕ × List �
 named_in otherwise name [] = Err otherwise
 named_in otherwise name (b ∷ bs) = character_or otherwise bs (referred_to name)
 
--- behind a `&` from which on so many bytes are left: up to the first `;`
+-- after a `&`, where so many bytes are left from it: up to the first `;`
 unfoldable pub reference_at : ℕ → List ℕ → Result (ℕ × List ℕ) Fault
 reference_at left bytes = let n = up_to is_semicolon bytes in named_in (entity left bytes) (take n bytes) (drop n bytes)

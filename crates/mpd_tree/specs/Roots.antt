@@ -1,10 +1,10 @@
--- The tree that rows show.
+-- The tree of rows.
 use Rattle.std.specs.Prelude.{◌≡◌, ℕ, suc, nat_lt, List, [], ◌∷◌, ◌++◌, map, length, if◌then◌else◌}
 use Rattle.mpd_tree.specs.{declared.tree.ElementRow.ElementRow, declared.tree.AttributeRow.AttributeRow, Forests.{Shown, shown_of, flat}}
 use Rattle.mpd_tree.specs.Trees.{Forest, nothing, element, Element}
 
--- The elements that stand side by side in the rows from `from` up to `end`, where the rows begin at `at`: each row
--- is followed by those inside it, up to its `next`.
+-- The sibling elements in the rows from `from` up to `end`, where the rows begin at `at`: each row is followed by those
+-- inside it, up to its `next`.
 abbrev pub forest_of : List Shown → (at from end : ℕ) → Forest
 forest_of [] at from end = nothing
 forest_of (row ∷ rows) at from end =
@@ -27,7 +27,7 @@ abbrev pub root_shown : (source read : List ℕ) → List ElementRow → List At
 root_shown source read elements attributes =
     first_of (forest_of (rows_shown source read elements attributes) 0 0 (length elements)) no_element
 
--- the rows show their root and what is in it, and nothing else
+-- the rows are those of their root and its content, and nothing else
 abbrev pub HasOneRoot : (source read : List ℕ) → List ElementRow → List AttributeRow → Type 0
 HasOneRoot source read elements attributes =
     rows_shown source read elements attributes

@@ -1,10 +1,10 @@
--- Runs of bytes from the front on, and what stands behind them.
+-- Runs of leading bytes, and what follows them.
 use Rattle.std.specs.Prelude.{ℕ, List, [], ◌∷◌, Bool, false, not, ◌==◌, suc, length, take, drop, position, unwrap_or, if◌then◌else◌}
 use Rattle.std.specs.{Prelude.nat_eq, List.starts_with}
 use Rattle.byte_scan.specs.ByteSet.{is_member}
 use Rattle.mpd_tree.specs.Characters.{is_white, goes_on_name}
 
--- how many bytes stand before the first one that ends a run
+-- how many bytes are before the first one that ends a run
 abbrev pub up_to : (ℕ → Bool) → List ℕ → ℕ
 up_to ends bytes = unwrap_or (position ends bytes) (length bytes)
 
@@ -31,11 +31,11 @@ after_line_feed (b ∷ bs) = if b == 10 then bs else b ∷ bs
 abbrev pub mark : List ℕ
 mark = 239 ∷ 187 ∷ 191 ∷ []
 
--- behind the byte order mark, if there is one
+-- after the byte order mark, if there is one
 abbrev pub after_mark : List ℕ → List ℕ
 after_mark bytes = if starts_with nat_eq bytes mark then drop 3 bytes else bytes
 
--- how many bytes are the same at the front of both
+-- the length of the common prefix
 abbrev pub common : List ℕ → List ℕ → ℕ
 common [] bytes = 0
 common (a ∷ more) [] = 0

@@ -1,4 +1,4 @@
-// An attribute as it is handed out.
+// An attribute as callers see it.
 ghost use Rattle.std.specs.Prelude.{◌≡◌, ◌≤◌, length};
 ghost use Rattle.std.specs.String.{string_bytes};
 
@@ -10,7 +10,7 @@ use bridge_io::Place;
 pub struct Attr<'a> {
     /// Its name, with its prefix.
     pub name: &'a str,
-    /// Its value, with line ends, white space and references read as XML 1.0 3.3.3 says.
+    /// Its value, normalized by XML 1.0 3.3.3: line ends, white space and references.
     pub value: &'a str,
     pub(crate) tree: &'a Tree,
     // Where its name begins in the source.
@@ -21,7 +21,7 @@ pub struct Attr<'a> {
 impl Attr<'_> {
     ghost use Rattle.mpd_tree.specs.Views.{attribute_shown};
 
-    /// Where its name begins. It is looked up at each call.
+    /// The position of its name. Each call looks it up.
     pub fn place(&self) -> Place
         ensures { result ≡ (attribute_shown self.now).place }
     {

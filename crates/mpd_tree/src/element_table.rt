@@ -1,4 +1,4 @@
-// The rows of a tree's elements. Most of them take 12 bytes each.
+// The rows of a tree's elements, most of which take 12 bytes.
 ghost use Rattle.std.specs.Prelude.{◌≡◌, ◌+◌, ◌<◌, ◌^◌, [], ◌∷◌, ◌++◌, IfErr, IfOk, IfSome, OnErr, OnOk, Some, length, set, slice_get};
 ghost use Rattle.mpd_tree.specs.Packed.{IsNarrow, IsPackedAs, IsWithin, narrow_row};
 ghost use Rattle.mpd_tree.specs.declared.stop.Stop.TheVariants.{Memory};
@@ -8,11 +8,11 @@ use crate::tree::{ElementRow, KeptSpan};
 use std::alloc::Global;
 use std::marker::Model;
 
-/// The codes from here on are those of wide rows.
+/// Codes from this one on refer to wide rows.
 const FIRST_WIDE: u32 = 65_536;
 
-/// A row in few bytes. Below [`FIRST_WIDE`] the code is the length of the name and 256 times the number of attributes,
-/// and nothing is inside of such an element. From there on it counts the wide rows, and the other fields say nothing.
+/// A compact row. Below [`FIRST_WIDE`] the code is the length of the name plus 256 times the number of attributes, and
+/// the element has no children. From there on it counts the wide rows, and the other fields are unused.
 #[derive(Clone, Copy)]
 pub(crate) struct PackedRow {
     name_start: u32,
@@ -22,11 +22,11 @@ pub(crate) struct PackedRow {
 
 /// The rows of elements, in document order.
 ///
-/// In a contract it is the list of them.
+/// In a contract it is their list.
 #[derive(Drop)]
 pub struct ElementTable {
     rows: Vec<PackedRow>,
-    // The rows that say more than a packed one can, each for one of those above.
+    // The rows that don't fit a packed one, each for one of those above.
     wide: Vec<ElementRow>,
 }
 
@@ -43,7 +43,7 @@ impl Model for ElementTable {
     ghost invariant = { λ table. ArePacked table.wide.items table.rows.items };
 }
 
-/// A number of rows. There is none from 2 ^ 32 on.
+/// A number of rows as `u32`. An error from 2 ^ 32 on.
 #[inline(always)]
 pub fn count(rows: usize) -> Result<u32, Stop>
     ensures ok { IfOk result (λ count. count ≡ rows) }
@@ -55,7 +55,7 @@ pub fn count(rows: usize) -> Result<u32, Stop>
     }
 }
 
-/// How far an end is behind a start, where a byte can say it.
+/// `end - start`, where it is below 256.
 #[inline(always)]
 fn short(start: u32, end: u32) -> Option<u32>
     ensures { IfSome result (λ length. (length < 256) × (start + length ≡ end)) }
@@ -66,7 +66,7 @@ fn short(start: u32, end: u32) -> Option<u32>
     }
 }
 
-/// The packed row that says all of a row, where there is one. The row behind it has the number `next`.
+/// The packed row of a row that fits one. The row after it has the number `next`.
 #[inline(always)]
 fn narrowed(row: ElementRow, next: u32) -> Option<PackedRow>
     ensures { IfSome result (IsNarrow next row) }
@@ -83,7 +83,7 @@ fn narrowed(row: ElementRow, next: u32) -> Option<PackedRow>
     })
 }
 
-/// The row that a packed one says. The row behind it has the number `next`.
+/// Unpacks a row. The row after it has the number `next`.
 #[inline(always)]
 fn widened(packed: PackedRow, next: u32) -> ElementRow
     requires { IsWithin packed }
@@ -101,7 +101,7 @@ fn widened(packed: PackedRow, next: u32) -> ElementRow
     }
 }
 
-/// The packed row for a row, which comes behind the wide ones where it says more.
+/// Packs a row, which is appended to the wide ones where it doesn't fit.
 #[inline(always)]
 fn pack(wide: &mut Vec<ElementRow>, row: ElementRow, next: u32) -> Result<PackedRow, Stop>
     ensures ok { IfOk result (IsPackedAs next row wide.old.items wide.new.items) }
@@ -121,7 +121,7 @@ fn pack(wide: &mut Vec<ElementRow>, row: ElementRow, next: u32) -> Result<Packed
 }
 
 impl ElementTable {
-    /// A table without a row.
+    /// An empty table.
     pub fn new(alloc: Global) -> ElementTable
         ensures { result ≡ [] }
     {
@@ -156,7 +156,7 @@ impl ElementTable {
         }
     }
 
-    /// Adds a row behind the others.
+    /// Appends a row.
     #[inline(always)]
     #[tactic(auto, using(crate::proofs::PackedLemmas::packed_rows))]
     pub fn push(&mut self, row: ElementRow) -> Result<(), Stop>
@@ -170,7 +170,7 @@ impl ElementTable {
         Ok(())
     }
 
-    /// Puts a row in the place of the one with that number. A wide row that was there stays behind, unread.
+    /// Replaces the row with that number. Its old wide row stays, unread.
     #[inline(always)]
     #[tactic(auto, using(crate::proofs::PackedLemmas::packed_rows))]
     pub fn set(&mut self, index: usize, row: ElementRow) -> Result<(), Stop>

@@ -1,4 +1,4 @@
-// Texts as they are written into values and content.
+// Escaping of texts for values and content.
 ghost use Rattle.std.specs.Prelude.{◌≡◌, ◌++◌, IfOk, OnOk, IfSome, IfNone, encode_utf8};
 ghost use Rattle.std.specs.String.{string_bytes};
 ghost use Rattle.mpd_tree.specs.Escapes.{escape_all};
@@ -6,7 +6,7 @@ ghost use Rattle.mpd_tree.specs.Escapes.{escape_all};
 use bridge_io::{NoMemory, Text};
 use std::alloc::Global;
 
-/// What stands for the character, where it isn't written as it is.
+/// The reference for a character, where it isn't written as it is.
 #[tactic(auto, using(crate::proofs::EscapeLemmas::escapes))]
 fn reference_to(character: char) -> Option<&'static str>
     ensures some { IfSome result (λ name. name.now ≡ escape_all (encode_utf8 character)) }
@@ -25,7 +25,7 @@ fn reference_to(character: char) -> Option<&'static str>
     }
 }
 
-/// Adds a character as it is written.
+/// Appends a character, escaped.
 fn push_escaped(written: &mut String, character: char) -> Result<(), NoMemory>
     ensures { OnOk result (string_bytes written.new ≡ string_bytes written.old ++ escape_all (encode_utf8 character)) }
 {
@@ -41,7 +41,7 @@ fn push_escaped(written: &mut String, character: char) -> Result<(), NoMemory>
 ///
 /// # Errors
 ///
-/// [`NoMemory`] where memory is wanting.
+/// [`NoMemory`] only.
 pub fn escaped(alloc: Global, text: &str) -> Result<Text, NoMemory>
     ensures { IfOk result (λ written. written ≡ escape_all text.now) }
 {

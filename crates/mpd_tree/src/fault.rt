@@ -1,4 +1,4 @@
-// Why a text is refused.
+// Why a text is rejected.
 ghost use Rattle.std.specs.Prelude.{◌≡◌};
 ghost use Rattle.mpd_tree.specs.declared.fault.TextFault.TheVariants.{Memory};
 
@@ -6,30 +6,30 @@ use bridge_io::{NoMemory, Place};
 use std::alloc::{AllocError, AllocFailed};
 use thiserror::Error;
 
-/// Why bytes are no text of an MPD that can be read, and where. Of several faults the first in this order is
-/// told: [`TextFault::NotUtf8`] anywhere, [`TextFault::BadChar`] anywhere, and then the one that is decided first from
-/// the left.
+/// Why bytes aren't the text of a readable MPD, and where. The first of several faults in this order is reported:
+/// [`TextFault::NotUtf8`] anywhere, [`TextFault::BadChar`] anywhere, and then the leftmost one, by the byte that
+/// decides it.
 #[derive(Clone, Copy, Debug, PartialEq, Eq, Error)]
 pub enum TextFault {
     /// The bytes are not UTF-8: the first byte of the first bad sequence.
     #[error("not UTF-8")]
     NotUtf8(Place),
-    /// A character that XML 1.0 2.2 leaves out of every text.
+    /// A character that XML 1.0 2.2 forbids in every text.
     #[error("a character that no text may have")]
     BadChar(Place),
-    /// The bytes end before the root does, or inside of markup: their length.
+    /// The bytes end before the root does, or inside markup: the end of the bytes.
     #[error("the text is cut")]
     Cut(Place),
-    /// A byte that may not stand there, for no other reason of these.
+    /// A byte that isn't allowed there, for no other reason of these.
     #[error("a byte that may not stand there")]
     Syntax(Place),
-    /// An end tag whose name is not that of the open element: its `<`.
+    /// An end tag whose name isn't that of the open element: its `<`.
     #[error("the end tag of another element")]
     TagMismatch(Place),
-    /// A name that stands twice among the attributes of a tag: where it stands for the second time.
+    /// A repeated attribute name in a tag: its second occurrence.
     #[error("an attribute that stands twice")]
     DoubleAttribute(Place),
-    /// A `&` that begins no reference.
+    /// A `&` that doesn't begin a valid reference.
     #[error("no reference to a character")]
     Entity(Place),
     /// `<!D`, which begins a document type: the `<`.
@@ -38,13 +38,13 @@ pub enum TextFault {
     /// `<![`, which begins a CDATA section: the `<`.
     #[error("a CDATA section")]
     Cdata(Place),
-    /// `<?` that begins no declaration at the front of the text: the `<`.
+    /// `<?` that isn't the declaration at the start of the text: the `<`.
     #[error("a processing instruction")]
     Instruction(Place),
-    /// An element inside of 32 others: its `<`.
+    /// An element nested inside 32 others: its `<`.
     #[error("elements too deep")]
     Depth(Place),
-    /// Memory is wanting, which says nothing of the text.
+    /// Out of memory, which says nothing about the text.
     #[error("out of memory")]
     Memory,
 }

@@ -1,16 +1,16 @@
-// Laws over the definitions.
+// Laws of the definitions.
 ghost use Rattle.std.specs.Prelude.{◌≢◌, ℕ, List, Err};
 ghost use Rattle.mpd_tree.specs.Escapes.{IsReadBack};
 ghost use Rattle.mpd_tree.specs.Meaning.{IsOneReading, reading_of};
 ghost use Rattle.mpd_tree.specs.declared.fault.TextFault.TheVariants.{Memory};
 
-/// Bytes are spelled by exactly one tree and have no fault, or are spelled by none and have exactly one fault; and
-/// `reading_of` them is this tree or this fault.
+/// Either exactly one tree spells the bytes, and they have no fault, or none does, and they have exactly one fault;
+/// `reading_of` is this tree or this fault.
 pub fn one_reading()
     ensures { (bytes : List ℕ) → IsOneReading bytes (reading_of bytes) }
 {}
 
-/// Want of memory is no text's fault.
+/// No text has the fault `Memory`.
 pub fn no_memory()
     ensures { (bytes : List ℕ) → reading_of bytes ≢ Err Memory }
 {}

@@ -1,5 +1,5 @@
-//! The tree of an MPD's text: the grammar that tells which tree spells a text, or its one fault; the rows in which a tree
-//! is kept; and how element trees are written.
+//! The tree of an MPD's text: the grammar that determines which tree spells a text, or its one fault; the rows that store
+//! a tree; and how element trees are written.
 #![tactic(auto)]
 
 mod attr;

@@ -1,4 +1,5 @@
-// The lines of a text: the LF bytes are counted once, up to each block, so that a place costs one block at most.
+// The lines of a text: the LF bytes are counted once, up to each block, so that looking up a position scans at most
+// one block.
 ghost use Rattle.std.specs.Prelude.{◌≡◌, ◌≤◌, ◌/◌, IfErr, IfOk, length};
 ghost use Rattle.bridge_io.specs.Places.{place_of};
 ghost use Rattle.mpd_tree.specs.Lines.{AreCounted, block_size};
@@ -11,7 +12,7 @@ use std::alloc::Global;
 
 const BLOCK: usize = 256;
 
-/// How many LF bytes stand before each block of a text.
+/// How many LF bytes are before each block of a text.
 #[derive(Drop)]
 pub(crate) struct LineCounts {
     before: Vec<u64>,
@@ -33,7 +34,7 @@ impl LineCounts {
         Ok(LineCounts { before })
     }
 
-    /// The place of a byte, or of the end.
+    /// The position of a byte, or of the end.
     #[tactic(auto, using(crate::proofs::LineLemmas::line_counts))]
     pub(crate) fn place_of(&self, bytes: &[u8], at: usize) -> Place
         requires counted { AreCounted bytes.now (length bytes.now / block_size) self.now.before.items }

@@ -1,4 +1,4 @@
-// Elements of a tree, and the walks over what is in them.
+// Elements of a tree, and iterators over their contents.
 ghost use Rattle.std.specs.Prelude.{◌≡◌, ◌<◌, ◌≤◌, ◌++◌, All, Some, length, map, option_map, slice_get, vec_len};
 ghost use Rattle.std.specs.String.{string_bytes};
 ghost use Rattle.mpd_tree.specs.Rows.{HasAttributesWithin, IsAttributeKept, IsElementKept};
@@ -11,12 +11,12 @@ use bridge_io::Place;
 #[derive(Clone, Copy)]
 pub struct Node<'a> {
     tree: &'a Tree,
-    // Its place in document order, the root being 0.
+    // Its index in document order; the root is 0.
     index: usize,
     ghost within: { index < length tree.now.elements },
 }
 
-/// The attributes of an element, in document order.
+/// An iterator over the attributes of an element, in document order.
 #[derive(Drop)]
 pub struct AttrWalk<'a> {
     tree: &'a Tree,
@@ -25,7 +25,7 @@ pub struct AttrWalk<'a> {
         rest.now },
 }
 
-/// The children of an element, in document order.
+/// An iterator over the children of an element, in document order.
 #[derive(Drop)]
 pub struct NodeWalk<'a> {
     tree: &'a Tree,
@@ -54,14 +54,14 @@ impl<'a> Node<'a> {
         self.tree.text_of(self.row().name)
     }
 
-    /// Where its `<` stands.
+    /// The position of its `<`.
     pub fn place(&self) -> Place
         ensures { result ≡ (element_of self.now).head.place }
     {
         self.tree.place_of(self.row().name.start() - 1)
     }
 
-    /// The character data directly inside it, with line ends and references read.
+    /// The character data directly inside it, with line ends and references resolved.
     pub fn text(&self) -> &'a str
         ensures { result.now ≡ (element_of self.now).head.text }
     {
@@ -88,7 +88,7 @@ impl<'a> Node<'a> {
         &self.tree.attributes[row.attributes as usize..row.attributes_end as usize]
     }
 
-    /// The attribute of that name. There is none exactly where the tag has no such attribute.
+    /// The attribute of that name; `None` exactly where the tag has no such attribute.
     pub fn attribute(&self, name: &str) -> Option<Attr<'a>>
         ensures { option_map attribute_shown result ≡ attribute_named name.now (element_of self.now).head.attributes }
     {

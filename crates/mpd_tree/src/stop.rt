@@ -9,13 +9,13 @@ use std::alloc::{AllocError, AllocFailed};
 /// What is wrong with a text.
 #[derive(Clone, Copy)]
 pub enum Wrong {
-    /// A byte that may not stand there.
+    /// A byte that isn't allowed there.
     Syntax,
     /// The end tag of another element.
     TagMismatch,
-    /// A name that stands twice among the attributes of a tag.
+    /// A repeated attribute name in a tag.
     DoubleAttribute,
-    /// A `&` that begins no reference.
+    /// A `&` that doesn't begin a valid reference.
     Entity,
     /// A document type.
     Doctype,
@@ -23,19 +23,19 @@ pub enum Wrong {
     Cdata,
     /// A processing instruction.
     Instruction,
-    /// An element inside of 32 others.
+    /// An element nested inside 32 others.
     Depth,
 }
 
-/// What is wrong, with the bytes that are left from the place on where it is told, and from the byte on that decides it.
-/// Where none is left there the text is cut.
+/// What is wrong, with the number of bytes left from the position where it is reported, and from the byte that decides
+/// it. Where no byte is left there the text is truncated.
 #[derive(Clone, Copy)]
 pub struct Fault {
     /// What is wrong.
     pub wrong: Wrong,
-    /// How many bytes are left from the place on where it is told.
+    /// How many bytes are left from the position where it is reported.
     pub told: usize,
-    /// How many bytes are left from the byte on that decides it.
+    /// How many bytes are left from the byte that decides it.
     pub decided: usize,
 }
 
@@ -49,13 +49,13 @@ const CUT: Fault = Fault {
 /// Why reading stops.
 #[derive(Drop)]
 pub enum Stop {
-    /// Memory is wanting, or a place or a count has no number below 2^32.
+    /// Out of memory, or a position or a count isn't below 2^32.
     Memory,
     /// What is wrong with the text.
     Fault(Fault),
 }
 
-/// The first byte may not stand there.
+/// The first byte isn't allowed there.
 #[cold]
 pub fn syntax(bytes: &[u8]) -> Stop
     ensures { result ≡ stopped (spec.syntax bytes.now) }
@@ -63,7 +63,8 @@ pub fn syntax(bytes: &[u8]) -> Stop
     decided(Wrong::Syntax, bytes.len(), bytes)
 }
 
-/// The first byte decides a fault that is told where so many bytes are left. Where there is none the text is cut.
+/// The first byte decides a fault that is reported where `told` bytes are left. Where there is no byte the text is
+/// truncated.
 #[cold]
 pub fn decided(wrong: Wrong, told: usize, bytes: &[u8]) -> Stop
     ensures { result ≡ stopped (spec.fault wrong told bytes.now) }

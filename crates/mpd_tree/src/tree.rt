@@ -14,13 +14,13 @@ use crate::stop::Stop;
 use bridge_io::Place;
 use std::alloc::Global;
 
-/// Bytes of the kept text: of the source, or, counted on from its end, of what was read otherwise than it stands
-/// there.
+/// A span of the source, or, with offsets continuing from its end, of the text that differs from the source once
+/// read.
 #[derive(Clone, Copy)]
 pub struct KeptSpan {
     /// Its first byte.
     pub start: u32,
-    /// The byte behind its last one.
+    /// The byte after its last one.
     pub end: u32,
 }
 
@@ -28,10 +28,10 @@ impl KeptSpan {
     ghost use Rattle.std.specs.Prelude.{IfErr, IfOk};
     ghost use Rattle.mpd_tree.specs.declared.stop.Stop.TheVariants.{Memory};
 
-    /// No byte.
+    /// The empty span.
     pub const NOTHING: KeptSpan = KeptSpan { start: 0, end: 0 };
 
-    /// The bytes between two places. There is no number for a place from 4 GiB on.
+    /// The span between two offsets. An error from 4 GiB on.
     pub fn between(start: usize, end: usize) -> Result<KeptSpan, Stop>
         ensures span { IfOk result (λ span. (span.start ≡ start) × (span.end ≡ end)) }
         ensures fault { IfErr result (λ e. e ≡ Memory) }
@@ -49,7 +49,7 @@ impl KeptSpan {
         self.start as usize
     }
 
-    /// The byte behind its last one.
+    /// The byte after its last one.
     pub fn end(self) -> usize
         ensures { result ≡ self.end }
     {
@@ -57,19 +57,19 @@ impl KeptSpan {
     }
 }
 
-/// An element: its attributes are those from `attributes` to `attributes_end`, and the elements inside it follow it
-/// up to `next`.
+/// An element: its attributes are those from `attributes` to `attributes_end`, and the elements inside it follow up
+/// to `next`.
 #[derive(Clone, Copy)]
 pub struct ElementRow {
-    /// Its name, where the start tag has it.
+    /// Its name, in the start tag.
     pub name: KeptSpan,
     /// Its character data.
     pub text: KeptSpan,
     /// The number of its first attribute.
     pub attributes: u32,
-    /// The number behind that of its last attribute.
+    /// The number after that of its last attribute.
     pub attributes_end: u32,
-    /// The number of the first element behind it that isn't inside of it.
+    /// The number of the first element after it that isn't inside it.
     pub next: u32,
 }
 
@@ -78,14 +78,14 @@ pub struct ElementRow {
 pub struct AttributeRow {
     /// Its name.
     pub name: KeptSpan,
-    /// Its value as it is read.
+    /// Its value, normalized.
     pub value: KeptSpan,
 }
 
-/// What is read of a text, without the text itself.
+/// The result of reading a text, without the text itself.
 #[derive(Drop)]
 pub struct Rows {
-    /// What is read otherwise than it stands in the source: texts of elements, and values with references.
+    /// What differs from the source once read: texts of elements, and values with references.
     pub read: String,
     /// The elements in document order.
     pub elements: ElementTable,
@@ -117,11 +117,11 @@ impl Tree {
     ghost use Rattle.mpd_tree.specs.declared.fault.TextFault.TheVariants.{Memory};
     ghost use Rattle.mpd_tree.specs.Views.{attribute_shown, bytes_of};
 
-    /// The tree of a text that these rows are read of.
+    /// The tree of a text, by the rows that were read from it.
     ///
     /// # Errors
     ///
-    /// [`TextFault::Memory`] alone, where memory is wanting.
+    /// [`TextFault::Memory`] only.
     pub fn of_rows(alloc: Global, source: String, rows: Rows) -> Result<Tree, TextFault>
         requires elements_kept { All (IsElementKept (string_bytes source) (string_bytes source ++ string_bytes rows.read)) rows.elements }
         requires attributes_kept { All (IsAttributeKept (string_bytes source) (string_bytes source ++ string_bytes rows.read))

@@ -6,11 +6,11 @@ abbrev pub is_blank : Blank → ℕ → Bool
 is_blank Space b = b == 32
 is_blank SpaceOrLineEnd b = b == 32 || (b == 10 || b == 13)
 
--- a text without the blanks before it
+-- a text without its leading blanks
 abbrev pub without_front : (ℕ → Bool) → List ℕ → List ℕ
 without_front blank text = drop (prefix_len blank text) text
 
--- and without those behind it
+-- and without its trailing ones
 abbrev pub without_end : (ℕ → Bool) → List ℕ → List ℕ
 without_end blank text = take (length text - suffix_len blank text) text
 

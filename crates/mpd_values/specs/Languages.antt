@@ -1,7 +1,7 @@
--- Languages: ISO/IEC 23009-1, 5.3.3.2, of the characters that a playlist can carry.
+-- Languages: ISO/IEC 23009-1, 5.3.3.2, of the characters that a playlist can contain.
 use Rattle.std.specs.{Prelude.{ℕ, ◌==◌, ◌&&◌, nat_lt, nat_le, not, Bool, List, length}, List.list_all}
 
--- a printed ASCII character but no `"`
+-- a printable ASCII character, except `"`
 abbrev pub is_language_char : ℕ → Bool
 is_language_char b = nat_le 33 b && (nat_le b 126 && not (b == 34))
 

@@ -16,7 +16,7 @@ abbrev pub kept_if : {X : Type 0} → (X → Bool) → Option X → Option X
 kept_if test (Some x) = if test x then Some x else None
 kept_if test None = None
 
--- from `least` on, and below `bound`
+-- at least `least`, and below `bound`
 abbrev pub is_between : (least bound n : ℕ) → Bool
 is_between least bound n = nat_le least n && nat_lt n bound
 
@@ -24,7 +24,7 @@ is_between least bound n = nat_le least n && nat_lt n bound
 unfoldable pub number_of : List ℕ → Option ℕ
 number_of text = numeral_of (trimmed Space text)
 
--- the same, where it is from `least` on and below `bound`
+-- the same, where it is at least `least` and below `bound`
 abbrev pub number_between : (least bound : ℕ) → List ℕ → Option ℕ
 number_between least bound text = kept_if (is_between least bound) (number_of text)
 

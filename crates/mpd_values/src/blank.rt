@@ -6,7 +6,7 @@ ghost use Rattle.mpd_values.specs.Blanks as spec;
 /// The characters that are dropped around a value.
 #[derive(Clone, Copy)]
 pub enum Blank {
-    /// The space U+0020, around numbers, durations, instants, booleans, ranges and codes.
+    /// The space U+0020, around numbers, durations, timestamps, booleans, ranges and codecs.
     Space,
     /// The space, LF and CR, around the text of a BaseURL.
     SpaceOrLineEnd,

@@ -1,4 +1,4 @@
-// Lists of codes.
+// Lists of codecs.
 ghost use Rattle.std.specs.Prelude.{◌≡◌};
 ghost use Rattle.std.specs.List.{list_all, list_any};
 ghost use Rattle.mpd_values.specs.Codecs as spec;
@@ -10,16 +10,16 @@ use url_parts::{CodeClass, code_class};
 /// The most characters of a list.
 const MAX_LEN: usize = 255;
 
-/// Whether the text is a list of codes (RFC 6381): 1 to 255 characters from U+0020 to U+007E without `"`, cut at
-/// the commas into codes, none of which is empty but for spaces around it.
+/// Whether the text is a list of codecs (RFC 6381): 1 to 255 characters from U+0020 to U+007E without `"`, split at
+/// the commas into codecs, none of which is empty or only spaces.
 pub fn are_codes(text: &str) -> bool
     ensures { result ≡ spec.are_read_codes text.now }
 {
     text.len() <= MAX_LEN && has_code_chars(text) && has_no_empty_code(text)
 }
 
-/// Whether the text is a list of codes and one of them stands for another kind of media than this one. A code of
-/// unknown class agrees with every kind.
+/// Whether the text is a list of codecs and one of them is of another media type. A codec of unknown class agrees
+/// with every media type.
 #[tactic(auto, unfolding(crate::specs::Codecs::has_foreign_code))]
 pub fn has_foreign_code(text: &str, kind: Kind) -> bool
     ensures { result ≡ spec.has_foreign_code kind text.now }

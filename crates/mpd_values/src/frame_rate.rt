@@ -6,9 +6,9 @@ ghost use Rattle.mpd_values.specs.FrameRates.{frame_rate_between};
 use crate::number::read_numeral;
 use bridge_io::Ratio;
 
-/// Reads a frame rate: `n` or `n/m`, both from 1 on and below 2^32 (ISO/IEC 23009-1, 5.3.7.2).
+/// Reads a frame rate: `n` or `n/m`, both at least 1 and below 2^32 (ISO/IEC 23009-1, 5.3.7.2).
 ///
-/// There is none exactly where the text isn't written so.
+/// `None` exactly where the text isn't of that form.
 pub fn read_frame_rate(text: &str) -> Option<Ratio>
     ensures { option_map (λ rate. (rate.n, rate.m)) result ≡ frame_rate_between text.now }
 {

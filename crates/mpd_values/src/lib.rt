@@ -1,5 +1,6 @@
-//! Values of an MPD's attributes that no other standard gives: numbers, frame rates, lists of codes, languages and
-//! the kinds of media types (ISO/IEC 23009-1, 5.3). Durations and instants are read by iso_time, ranges by url_parts.
+//! Values of an MPD's attributes that no other standard defines: numbers, frame rates, lists of codecs, languages and
+//! the kinds of media types (ISO/IEC 23009-1, 5.3). Durations and timestamps are read by `iso_time`, ranges by
+//! `url_parts`.
 #![tactic(auto)]
 
 mod blank;

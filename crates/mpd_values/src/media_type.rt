@@ -5,7 +5,7 @@ ghost use Rattle.mpd_values.specs.MediaTypes as spec;
 use bridge_io::Kind;
 
 /// The kind of track of a media type, compared without regard to ASCII case: `video/mp4`, `audio/mp4` and
-/// `application/mp4`, which is text. There is none exactly where the text is none of the three.
+/// `application/mp4`, which is text. `None` exactly where the text is none of the three.
 #[tactic(auto, unfolding(crate::specs::MediaTypes::kind_of))]
 pub fn kind_of(text: &str) -> Option<Kind>
     ensures { result ≡ spec.kind_of text.now }
@@ -21,7 +21,7 @@ pub fn kind_of(text: &str) -> Option<Kind>
     }
 }
 
-/// Whether two texts are equal but for the case of ASCII letters.
+/// Whether two texts are equal, ignoring ASCII case.
 pub fn is_alike(text: &str, other: &str) -> bool
     ensures { result ≡ spec.is_alike text.now other.now }
 {

@@ -8,7 +8,7 @@ use crate::blank::{Blank, trimmed};
 
 /// Reads a number of one ASCII digit or more, spaces around it dropped.
 ///
-/// There is none exactly where the text isn't written so, or the number is below `least`, or not below `bound`.
+/// `None` exactly where the text isn't of that form, or the number is below `least`, or not below `bound`.
 #[tactic(auto, unfolding(crate::specs::Numbers::number_of))]
 pub fn read_number(text: &str, least: u64, bound: u64) -> Option<u64>
     ensures { result ≡ spec.number_between least bound text.now }
@@ -19,7 +19,7 @@ pub fn read_number(text: &str, least: u64, bound: u64) -> Option<u64>
 
 /// Reads a number of one ASCII digit or more that may have a `-` before it, spaces around it dropped.
 ///
-/// There is none exactly where the text isn't written so, or the number doesn't fit 64 signed bits.
+/// `None` exactly where the text isn't of that form, or the number doesn't fit 64 signed bits.
 #[tactic(auto, unfolding(crate::specs::Numbers::signed_64_of))]
 pub fn read_signed(text: &str) -> Option<i64>
     ensures { result ≡ spec.signed_64_of text.now }

@@ -26,15 +26,15 @@ pub record Reply : Type 0 where
 abbrev pub HasReply : Reply → Response → Type 0
 HasReply reply r = IsResponse reply.status reply.fields reply.body r
 
--- a status alone
+-- only a status
 abbrev pub alone : ℕ → Reply
 alone status = record { status = status; fields = []; body = [] }
 
--- how a cache may use what is sent: RFC 9111, 5.2
+-- how caches may use the response: RFC 9111, 5.2
 abbrev pub cached : (cache : List ℕ) → Header
 cached cache = (codes "cache-control", cache)
 
--- it asks again before it uses what it has
+-- caches have to revalidate before they use what they have
 abbrev pub asked_again : Header
 asked_again = cached (codes "no-cache")
 
@@ -45,11 +45,11 @@ not_found = record { status = 404; fields = asked_again ∷ []; body = [] }
 abbrev pub not_allowed : (methods : List ℕ) → Reply
 not_allowed methods = record { status = 405; fields = (codes "allow", methods) ∷ []; body = [] }
 
--- why a manifest is refused
+-- why a manifest is rejected
 abbrev pub refused : (line : List ℕ) → Reply
 refused line = record { status = 422; fields = (codes "content-type", codes "text/plain; charset=utf-8") ∷ asked_again ∷ []; body = line }
 
--- of an MPD by ISO/IEC 23009-1, and of a playlist by RFC 8216
+-- for an MPD by ISO/IEC 23009-1, and for a playlist by RFC 8216
 abbrev pub media_type : (file : List ℕ) → List ℕ
 media_type file = if ends_with nat_eq file (codes ".mpd") then codes "application/dash+xml" else codes "application/vnd.apple.mpegurl"
 
@@ -60,7 +60,7 @@ abbrev pub found : (cache type tag body : List ℕ) → Reply
 found cache type tag body =
     record { status = 200; fields = (codes "content-type", type) ∷ (codes "etag", tag) ∷ cached cache ∷ []; body = body }
 
--- the client has some tags
+-- `known` are the ETags that the client has
 abbrev pub text_reply : (cache file : List ℕ) → (known : List FieldValue) → (text : List ℕ) → Reply
 text_reply cache file known text =
     if is_known known (tag_of text) then not_modified cache (tag_of text) else found cache (media_type file) (tag_of text) text
@@ -80,13 +80,13 @@ read_reply making terms wanted known (Ok files) = page_reply terms.cache.bytes w
 read_reply making terms wanted known (Err Missing) = not_found
 read_reply making terms wanted known (Err (Long place)) = refused too_long
 
--- of a manifest that was posted, whose answer no client has under a tag
+-- for a posted manifest, for which a client's ETags don't matter
 abbrev pub posted_reply : Making → Terms → Posted → Reply
 posted_reply making terms posted = page_reply terms.cache.bytes posted.file [] (making.page_of posted.manifest posted.file)
 
 -- ---- answers
 
--- where files are read and pages made: how they are, how they are sent, the files where they are told, and how often a read has failed
+-- the state for answers: how pages are made and sent, the files where the store models them, and how often a read has failed
 pub record Site : Type 0 where
   pub making : Making
   pub terms : Terms
@@ -96,7 +96,7 @@ pub record Site : Type 0 where
 abbrev pub site : Making → Terms → Option Files → (faults : ℕ) → Site
 site making terms files faults = record { making = making; terms = terms; files = files; faults = faults }
 
--- The response is the reply by what was read, which is what the files have, where they are told.
+-- The response is the reply by what was read, which is what the files have, where the store models them.
 pub record Finds (s : Site) (wanted : Wanted) (known : List FieldValue) (r : Response) : Type 0 where
   pub read : Result (List SourceFile) Unread
   pub as_told : ForSome s.files (λ all. s.making.sources_of s.terms.base wanted.manifest all ≡ read)
@@ -110,15 +110,15 @@ Answers s faults ask.Malformed known r = HasReply (alone 400) r
 Answers s faults (ask.File wanted) known r = Finds s wanted known r ⊎ (Rose s.faults faults × HasReply (alone 500) r)
 Answers s faults (ask.Posted posted) known r = HasReply (posted_reply s.making s.terms posted) r
 
--- the tags that a request lists
+-- the ETags that a request lists
 abbrev pub known_to : Request (List ℕ) → List FieldValue
 known_to request = known_by (head_of request).headers
 
--- A request is answered by a site whose reads have failed so often in the end, or memory is wanting.
+-- A request is answered by a site, with this count of failed reads in the end, or memory runs out.
 abbrev pub IsAnswered : Site → (faults : ℕ) → Request (List ℕ) → Response → Type 0
 IsAnswered site faults request r = HasReply (alone 503) r ⊎ Answers site faults (ask_of request) (known_to request) r
 
--- nothing changed but that reads may have failed
+-- nothing changed, except that reads may have failed
 pub record Stays (old new : Site) : Type 0 where
   pub making : new.making ≡ old.making
   pub terms : new.terms ≡ old.terms
@@ -130,8 +130,8 @@ pub record Step (old : Site) (request : Request (List ℕ)) (r : Response) (new 
   pub answered : IsAnswered old new.faults request r
   pub stays : Stays old new
 
--- What was done over one connection, from its first byte on: what was sent answers the requests that were read, in their order,
--- and each answer is of the site.
+-- A run over one connection, from its first byte on: what was sent answers the requests that were read, in order, and each
+-- answer is that of the site.
 pub record Run {E : Type 0} (config : Config) (old new : Site) (from from' to to' : Option (List ℕ)) (result : Result (Unit {0}) E)
     : Type 0 where
   pub history : History

@@ -1,4 +1,4 @@
--- What is read for a manifest, and the pages that are made of it.
+-- What is read for a manifest, and the pages that are made from it.
 use Rattle.page_server.specs.declared.maker.Page.TheVariants as told
 use Rattle.page_server.specs.declared.workshop.Held.TheVariants as kept
 use Rattle.std.specs.Prelude.{ℕ, List, Result}
@@ -6,7 +6,7 @@ use Rattle.bridge_io.specs.{Outside.Files, Slurped.Unread}
 use Rattle.page_server.specs.declared.maker.{Manifest.Manifest, Page.Page as Told, SourceFile.SourceFile}
 use Rattle.page_server.specs.declared.workshop.Held.{Held}
 
--- what is made under one name: a text, nothing, or a line that tells why the manifest is refused
+-- what is made under one name: a text, nothing, or a line that says why the manifest is rejected
 pub data Page : Type 0 where
   Text : List ℕ → Page
   Missing : Page
@@ -23,7 +23,7 @@ held (kept.Text text) = Text text
 held kept.Missing = Missing
 held (kept.Refused line) = Refused line
 
--- how pages are made: what is read of the files for a manifest under a base, and the page under a name that is made of it
+-- how pages are made: what is read of the files for a manifest under a base, and the page under a name that is made from it
 pub record Making : Type 0 where
   pub sources_of : (base manifest : List ℕ) → Files → Result (List SourceFile) Unread
   pub page_of : Manifest → (file : List ℕ) → Page

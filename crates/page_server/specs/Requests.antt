@@ -19,34 +19,34 @@ use Rattle.page_server.specs.declared.ask.Ask.TheVariants.{Nothing, OnlyRead, On
 abbrev pub name_if : List ℕ → Option (List ℕ)
 name_if text = if is_name text then Some text else None
 
--- a file that is made of a manifest, where both are names
+-- a file that is made from a manifest, where both names are valid
 abbrev pub wanted_if : (manifest file : List ℕ) → Option Wanted
 wanted_if manifest file = if is_name manifest && is_name file then Some (record { manifest = manifest; file = file }) else None
 
--- what follows a `/` that a text begins with
+-- what follows the leading `/` of a text
 abbrev pub after_slash : List ℕ → Option (List ℕ)
 after_slash [] = None
 after_slash (b ∷ rest) = if b == 47 then Some rest else None
 
--- what stands before the last `/`, behind which a text goes on at a place
+-- what is before the last `/`, given the index after it
 abbrev pub folder_before : List ℕ → ℕ → Option (List ℕ)
 folder_before text zero = None
 folder_before text (suc slash) = Some (take slash text)
 
--- what stands before the last `/`
+-- what is before the last `/`
 abbrev pub folder_of : List ℕ → Option (List ℕ)
 folder_of text = folder_before text (length text - suffix_len (λ b. not (b == 47)) text)
 
--- what stands before the last `/` of a file's name is its manifest's
+-- what is before the last `/` of a file's name is its manifest's name
 abbrev pub wanted_file : (file : List ℕ) → Option Wanted
 wanted_file file = option_and_then (λ manifest. wanted_if manifest file) (folder_of file)
 
 unfoldable pub wanted_of : (path : List ℕ) → Option Wanted
 wanted_of path = option_and_then wanted_file (after_slash path)
 
--- ---- manifests that are posted
+-- ---- posted manifests
 
--- the first field of a name, and the text that a value stands for, as forms write them: URL Standard, 5.1
+-- the first field of a name, and the decoded text of a value, as form data: URL Standard, 5.1
 abbrev pub raw_field_of : (query name : List ℕ) → Option (List ℕ × List ℕ)
 raw_field_of query name = find (λ (pair : List ℕ × List ℕ). bytes_eq pair.0 name) (raw_pairs query)
 
@@ -63,7 +63,7 @@ abbrev pub posted_manifest : (body base : List ℕ) → Manifest
 posted_manifest body base =
     record { base = base; name = posted_name; files = record { name = posted_name; bytes = body } ∷ [] }
 
--- a file of a manifest with these bytes, where what it is called makes a name
+-- a file of a manifest with these bytes, where its name is valid
 abbrev pub posted_with : (body base file : List ℕ) → Option Posted
 posted_with body base file =
     option_map (λ name. record { manifest = posted_manifest body base; file = name }) (name_if (codes "manifest.mpd/" ++ file))
@@ -81,7 +81,7 @@ abbrev pub ask_by : (method : List ℕ) → Option Wanted → Ask
 ask_by method None = Nothing
 ask_by method (Some wanted) = if is_read method then File wanted else OnlyRead
 
--- A path that names no file of a manifest has nothing, by any method.
+-- A path that isn't that of a manifest's file is unknown, for every method.
 abbrev pub read_ask : Request (List ℕ) → Ask
 read_ask request = ask_by (head_of request).method (wanted_of (uri_path (head_of request).uri))
 
@@ -96,6 +96,6 @@ abbrev pub posted_ask : Request (List ℕ) → Ask
 posted_ask request =
     if bytes_eq (head_of request).method (codes "POST") then ask_posted (posted_of (query_in request) (body_of request)) else OnlyPosted
 
--- Manifests are posted to one path; each other one may be that of a file.
+-- Manifests are posted to one path; every other one may be that of a file.
 abbrev pub ask_of : Request (List ℕ) → Ask
 ask_of request = if bytes_eq (uri_path (head_of request).uri) (codes "/hls") then posted_ask request else read_ask request

@@ -11,17 +11,17 @@ use std::alloc::Global;
 /// What a request asks for.
 #[derive(Drop)]
 pub enum Ask {
-    /// Its path names nothing.
+    /// Nothing: there is no such path.
     Nothing,
-    /// To do something else with a file of a manifest than to read it.
+    /// To do something other than read a file of a manifest.
     OnlyRead,
-    /// To do something else where manifests are posted.
+    /// To do something other than post a manifest, on the path for that.
     OnlyPosted,
-    /// To make a file of a manifest that is posted, without a base or without a file that is a name.
+    /// To make a file of a posted manifest, without a base or without a valid file name.
     Malformed,
     /// To read this file.
     File(Wanted),
-    /// To make this file of a manifest that is posted.
+    /// To make this file of a posted manifest.
     Posted(Posted),
 }
 

@@ -1,4 +1,4 @@
-// The tag of a body, and the tags that a client knows (RFC 9110, 8.8.3 and 13.1.2).
+// The ETag of a body, and the ETags that a client has (RFC 9110, 8.8.3 and 13.1.2).
 ghost use Rattle.std.specs.Prelude.{◌≡◌, IfOk};
 ghost use Rattle.std.specs.List.{list_all, prefix_len};
 ghost use Rattle.std.specs.Option.{option_copied};
@@ -11,7 +11,7 @@ use http::{HeaderMap, HeaderValue};
 use sha2::{Digest, Sha256};
 use std::alloc::Global;
 
-/// The tag of a body: its SHA-256 in lower case hex, in quotes.
+/// The ETag of a body: its SHA-256 in lower case hex, in quotes.
 #[tactic(auto, unfolding(crate::specs::Tags::tag_of))]
 pub fn tag_of(alloc: Global, body: &[u8]) -> Result<HeaderValue, NoMemory>
     ensures { IfOk result (λ tag. tag ≡ plain_value (spec.tag_of body.now)) }
@@ -24,7 +24,7 @@ pub fn tag_of(alloc: Global, body: &[u8]) -> Result<HeaderValue, NoMemory>
     HeaderValue::from_bytes(alloc, text.as_slice()).map_err(|_| NoMemory)
 }
 
-/// Whether a client whose request may list tags knows a tag.
+/// Whether a client, whose request may list ETags, has an ETag.
 #[tactic(auto, unfolding(crate::specs::Tags::is_known))]
 pub fn is_known_in(headers: Option<&HeaderMap>, tag: &[u8]) -> bool
     ensures { result ≡ spec.is_known (spec.known_in (option_copied headers.entry)) tag.now }
@@ -35,7 +35,7 @@ pub fn is_known_in(headers: Option<&HeaderMap>, tag: &[u8]) -> bool
     }
 }
 
-/// Whether some value of `If-None-Match` names a tag, or any.
+/// Whether some value of `If-None-Match` has an ETag, or is `*`.
 #[tactic(auto, unfolding(crate::specs::Tags::is_known))]
 fn is_known(headers: &HeaderMap, tag: &[u8]) -> bool
     ensures { result ≡ spec.is_known (spec.known_by headers.now) tag.now }
@@ -58,14 +58,14 @@ fn lists(value: &[u8], tag: &[u8]) -> bool
         .any(|member| is_tag(member, tag))
 }
 
-/// Whether a member of a list is the tag, as a strong or a weak one, between blanks.
+/// Whether a member of a list is the ETag, strong or weak, surrounded by blanks.
 fn is_tag(member: &[u8], tag: &[u8]) -> bool
     ensures { result ≡ spec.is_tag tag.now member.now }
 {
     begins_with_tag(without_mark(after_blanks(member)), tag)
 }
 
-/// Whether the text is the tag and blanks behind it.
+/// Whether the text is the ETag followed by blanks.
 fn begins_with_tag(text: &[u8], tag: &[u8]) -> bool
     ensures { result ≡ spec.begins_with_tag tag.now text.now }
 {
@@ -78,7 +78,7 @@ fn are_blanks(text: &[u8]) -> bool
     text.iter().all(|byte| is_blank(*byte))
 }
 
-/// Without the mark of a weak tag.
+/// Without the `W/` of a weak ETag.
 fn without_mark(text: &[u8]) -> &[u8]
     ensures { result.now ≡ spec.without_mark text.now }
 {

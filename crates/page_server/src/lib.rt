@@ -1,5 +1,5 @@
-//! Files that are made of manifests when they are asked for, over HTTP: which file a request asks for, what is read for it,
-//! and the answer. What is made of a manifest is a [`Maker`]'s.
+//! Files that are made from manifests on request, over HTTP: which file a request asks for, what is read for it, and the
+//! response. A [`Maker`] makes the files of a manifest.
 #![tactic(auto)]
 
 mod ask;

@@ -1,4 +1,4 @@
-// What makes the files of manifests.
+// Makers of the files of manifests.
 ghost use Rattle.std.specs.Prelude.{◌≡◌, ℕ, List, OnOk};
 ghost use Rattle.std.specs.Option.{ForSome};
 ghost use Rattle.bridge_io.specs.Answer.{Gives};
@@ -8,7 +8,7 @@ ghost use Rattle.bridge_io.specs.declared.read_error.Slurp.TheVariants.{Fault};
 
 use bridge_io::{Bytes, Name, NoMemory, Sequence, Slurp, Store, Text};
 
-/// A file as it was read.
+/// A file that was read.
 #[derive(Drop)]
 pub struct SourceFile {
     /// Its name in the store.
@@ -17,36 +17,37 @@ pub struct SourceFile {
     pub bytes: Bytes,
 }
 
-/// What was read for a manifest: the manifest itself, and each file that it names and that its pages depend on.
+/// The files that were read for a manifest: the manifest itself, and each file that it names and that its pages
+/// depend on.
 pub type Sources = Sequence<SourceFile>;
 
-/// A manifest as it was read.
+/// A manifest that was read.
 #[derive(Drop)]
 pub struct Manifest {
     /// The URL of the store's folder.
     pub base: Text,
     /// Its name in the store.
     pub name: Name,
-    /// What was read for it.
+    /// The files that were read for it.
     pub files: Sources,
 }
 
-/// What is made of a manifest under one name.
+/// What is made from a manifest under one name.
 #[derive(Clone, Copy)]
 pub enum Page<'a> {
     /// The text of a file.
     Text(&'a [u8]),
     /// No file of this name is made.
     Missing,
-    /// The manifest is refused, for the reason that the line tells.
+    /// The manifest is rejected; the line says why.
     Refused(&'a [u8]),
 }
 
-/// Makes files of manifests. It holds those that were made last.
+/// Makes files from manifests. It holds those that were made last.
 pub trait Maker {
     ghost use Rattle.page_server.specs.Pages.{Making, Page, shown};
 
-    /// What is read for a manifest, and the page that is made of it under a name.
+    /// What is read for a manifest, and the page that is made from it under a name.
     ghost making: { Self → Making };
 
     /// The pages that it holds, by their names.
@@ -59,7 +60,7 @@ pub trait Maker {
         ensures cause { HasCause Fault (F.read_faults store.old) (F.read_faults store.new) result }
         ensures files { F.files store.new ≡ F.files store.old };
 
-    /// Makes the pages of a manifest, and holds them in place of the former ones.
+    /// Makes the pages of a manifest, and holds them instead of the previous ones.
     fn make(&mut self, manifest: &Manifest) -> Result<(), NoMemory>
         ensures pages { OnOk result ((file : List ℕ) → holds self.new file ≡ (making self.old).page_of manifest.now file) }
         ensures making { making self.new ≡ making self.old };

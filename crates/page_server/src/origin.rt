@@ -1,4 +1,4 @@
-// What answers the requests.
+// The origin server.
 ghost use Rattle.std.specs.Prelude.{◌≡◌, ◌≤◌, OnOk};
 ghost use Rattle.std.specs.Option.{option_copied};
 ghost use Rattle.http_server.specs.Response.{IsBlank};
@@ -15,7 +15,7 @@ use http::{HeaderMap, HeaderValue, Request, StatusCode};
 use http_server::{Response, Service};
 use std::alloc::{AllocError, Global};
 
-/// Answers requests for files that are made of the manifests in a store, and of posted ones.
+/// Answers requests for files that are made from the manifests in a store, and from posted ones.
 #[derive(Drop)]
 pub struct Origin<F: Store + Drop, M: Maker + Drop> {
     alloc: Global,
@@ -25,7 +25,7 @@ pub struct Origin<F: Store + Drop, M: Maker + Drop> {
 }
 
 impl<F: Store + Drop, M: Maker + Drop> Origin<F, M> {
-    /// An origin of a store's manifests. It takes no memory.
+    /// An origin of a store's manifests. It allocates nothing.
     pub fn new(alloc: Global, terms: Terms, store: F, maker: M) -> Origin<F, M>
         ensures terms { result.terms ≡ terms }
         ensures store { result.store ≡ store }
@@ -60,7 +60,7 @@ impl<F: Store + Drop, M: Maker + Drop> Origin<F, M> {
         }
     }
 
-    /// Answers with a file that is made of a manifest in the store.
+    /// Answers with a file that is made from a manifest in the store.
     fn send(
         &mut self,
         wanted: Wanted,
@@ -94,7 +94,7 @@ impl<F: Store + Drop, M: Maker + Drop> Origin<F, M> {
         }
     }
 
-    /// Answers with a file that is made of a manifest.
+    /// Answers with a file that is made from a manifest.
     fn send_page(
         &mut self,
         manifest: Manifest,

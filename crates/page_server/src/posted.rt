@@ -1,4 +1,4 @@
-// Manifests that are posted.
+// Posted manifests.
 ghost use Rattle.std.specs.Prelude.{◌≡◌, IfOk, option_map};
 ghost use Rattle.form_urlencoded.specs.Form as form;
 ghost use Rattle.page_server.specs.Requests.{decoded, field_of, posted_name, posted_of, posted_with, raw_field_of};
@@ -9,17 +9,17 @@ use bridge_io::{Bytes, Name, NoMemory, Text};
 use form_urlencoded::{decode, raw_pairs};
 use std::alloc::Global;
 
-/// A file that is to be made of a manifest that is posted.
+/// A file to make from a posted manifest.
 #[derive(Drop)]
 pub struct Posted {
     /// The manifest.
     pub manifest: Manifest,
-    /// The file's name: the manifest's, `/` and what the request calls it.
+    /// The file's name: the manifest's, `/` and the name in the request.
     pub file: Name,
 }
 
 impl Posted {
-    /// What a request with this query and this body asks for: its fields `base` and `file` are those of a form.
+    /// What a request with this query and this body asks for: `base` and `file` are form fields of the query.
     #[tactic(auto, unfolding(crate::specs::Requests::posted_of))]
     pub fn of(alloc: Global, query: &str, body: &[u8]) -> Result<Option<Posted>, NoMemory>
         ensures { IfOk result (λ posted. posted ≡ posted_of query.now body.now) }
@@ -34,7 +34,7 @@ impl Posted {
     }
 }
 
-/// A file of a manifest with this base and these bytes. There is none where what it is called makes no name.
+/// A file of a manifest with this base and these bytes. `None` where its name isn't valid.
 fn posted_with(
     alloc: Global,
     base: Text,
@@ -62,7 +62,7 @@ fn posted_with(
     Ok(Some(Posted { manifest, file }))
 }
 
-/// The name of a manifest that is posted. It lies in the folder of its base.
+/// The name of a posted manifest. It is in the folder of its base.
 fn own_name(alloc: Global) -> Result<Name, NoMemory>
     ensures { IfOk result (λ name. name ≡ posted_name) }
 {
@@ -86,7 +86,7 @@ fn raw_field<'a>(query: &'a str, name: &str) -> Option<(&'a [u8], &'a [u8])>
     raw_pairs(query.as_bytes()).find(|pair| pair.0 == name.as_bytes())
 }
 
-/// The text that a value stands for.
+/// The decoded text of a value.
 fn decoded(alloc: Global, value: &[u8]) -> Result<Text, NoMemory>
     ensures { IfOk result (λ text. text ≡ decoded value.now) }
 {

@@ -16,7 +16,7 @@ use http::header::{ALLOW, CACHE_CONTROL, CONTENT_TYPE, ETAG};
 use http::{HeaderMap, HeaderValue, StatusCode};
 use http_server::Response;
 
-/// A status and nothing else.
+/// A response with only a status.
 pub fn alone(status: StatusCode, response: &mut Response) -> Result<(), NoMemory>
     requires { IsBlank response.old }
     ensures { OnOk result (spec.HasReply (spec.alone status) response.new) }
@@ -34,7 +34,7 @@ pub fn not_found(response: &mut Response) -> Result<(), NoMemory>
     ask_again(response)
 }
 
-/// A file is read, and a manifest is posted, by these methods alone.
+/// Only these methods are allowed.
 pub fn not_allowed(methods: HeaderValue, response: &mut Response) -> Result<(), NoMemory>
     requires { IsBlank response.old }
     ensures { OnOk result (spec.HasReply (spec.not_allowed methods.bytes) response.new) }
@@ -44,7 +44,7 @@ pub fn not_allowed(methods: HeaderValue, response: &mut Response) -> Result<(), 
     Ok(())
 }
 
-/// A file of the manifest is longer than what is read.
+/// A file of the manifest exceeds the size limit.
 pub fn too_long(response: &mut Response) -> Result<(), NoMemory>
     requires { IsBlank response.old }
     ensures { OnOk result (spec.HasReply (spec.refused spec.too_long) response.new) }
@@ -52,7 +52,7 @@ pub fn too_long(response: &mut Response) -> Result<(), NoMemory>
     refused(b"a file is too long\n", response)
 }
 
-/// A page of a file of this name, to a client whose request may list tags.
+/// The reply with a page of a file of this name, to a client whose request may list ETags.
 pub fn page_reply(
     cache: &HeaderValue,
     file: &Name,
@@ -95,7 +95,7 @@ fn text_reply(
     Ok(())
 }
 
-/// The manifest is refused, for the reason that the line tells.
+/// The manifest is rejected; the line says why.
 fn refused(line: &[u8], response: &mut Response) -> Result<(), NoMemory>
     requires { IsBlank response.old }
     ensures { OnOk result (spec.HasReply (spec.refused line.now) response.new) }
@@ -110,7 +110,7 @@ fn refused(line: &[u8], response: &mut Response) -> Result<(), NoMemory>
     Ok(())
 }
 
-/// A cache asks again before it uses what it has.
+/// Caches have to revalidate before they use what they have.
 fn ask_again(response: &mut Response) -> Result<(), NoMemory>
     ensures fields { OnOk result (fields_of response.new ≡ fields_of response.old ++ spec.asked_again ∷ []) }
     ensures status { response.new.status ≡ response.old.status }
@@ -119,7 +119,7 @@ fn ask_again(response: &mut Response) -> Result<(), NoMemory>
     cached(HeaderValue::from_static("no-cache"), response)
 }
 
-/// How a cache may use what is sent.
+/// How caches may use the response.
 fn cached(cache: HeaderValue, response: &mut Response) -> Result<(), NoMemory>
     ensures fields { OnOk result (fields_of response.new ≡ fields_of response.old ++ spec.cached cache.bytes ∷ []) }
     ensures status { response.new.status ≡ response.old.status }

@@ -9,7 +9,7 @@ use std::hash::RandomState;
 use std::io;
 use std::io::{Read, Write};
 
-/// Reads requests, answers each, and writes the answers in their order, until the connection is done.
+/// Reads requests, answers each, and writes the responses in order, until the connection is done.
 pub fn serve_pages<F: Store + Drop, M: Maker + Drop, R: Read, W: Write>(
     alloc: Global,
     keys: RandomState,

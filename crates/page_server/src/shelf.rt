@@ -8,7 +8,7 @@ use bridge_io::{Name, NoMemory};
 use std::alloc::Global;
 use std::collections::BTreeMap;
 
-/// Texts of files, with their tags.
+/// Texts of files, with their ETags.
 #[derive(Drop)]
 pub struct Shelf {
     alloc: Global,
@@ -16,7 +16,7 @@ pub struct Shelf {
 }
 
 impl Shelf {
-    /// A shelf without texts. It takes no memory.
+    /// An empty shelf. It allocates nothing.
     pub fn new(alloc: Global) -> Shelf
         ensures { (file : _) → on result file ≡ None }
     {

@@ -1,4 +1,4 @@
-// Texts that are sent, with their tags.
+// Texts that are sent, with their ETags.
 ghost use Rattle.std.specs.Prelude.{◌≡◌, IfOk};
 ghost use Rattle.http_header.specs.FieldValue.{plain_value};
 ghost use Rattle.page_server.specs.Tags.{tag_of};
@@ -10,7 +10,7 @@ use http::HeaderValue;
 use std::alloc::Global;
 use std::marker::Model;
 
-/// A text with its tag. In a contract it is the text.
+/// A text with its ETag. In a contract it is the text.
 #[derive(Drop)]
 pub struct Tagged {
     text: Bytes,
@@ -30,7 +30,7 @@ impl Model for Tagged {
 }
 
 impl Tagged {
-    /// A copy of a text, with its tag.
+    /// A copy of a text, with its ETag.
     pub fn of(alloc: Global, text: &[u8]) -> Result<Tagged, NoMemory>
         ensures { IfOk result (λ tagged. tagged ≡ text.now) }
     {
@@ -39,7 +39,7 @@ impl Tagged {
         Ok(Tagged { text, tag })
     }
 
-    /// The same text once more. Its bytes aren't copied.
+    /// The same text again. Its bytes aren't copied.
     pub fn share(&self) -> Result<Tagged, NoMemory>
         ensures { IfOk result (λ tagged. tagged ≡ self.now) }
     {
@@ -56,7 +56,7 @@ impl Tagged {
         Ok(self.text.clone()?)
     }
 
-    /// The tag.
+    /// The ETag.
     pub fn tag(&self) -> Result<HeaderValue, NoMemory>
         ensures { IfOk result (λ tag. tag ≡ plain_value (tag_of self.now)) }
     {

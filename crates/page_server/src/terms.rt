@@ -7,6 +7,6 @@ use http::HeaderValue;
 pub struct Terms {
     /// The URL of the store's folder.
     pub base: Text,
-    /// How caches may use a file that is sent: the value of its `Cache-Control` (RFC 9111, 5.2).
+    /// How caches may use a file: the value of its `Cache-Control` (RFC 9111, 5.2).
     pub cache: HeaderValue,
 }

@@ -1,4 +1,4 @@
-// Paths of files that are made of manifests.
+// Paths of files that are made from manifests.
 ghost use Rattle.std.specs.Prelude.{◌≡◌, IfOk};
 ghost use Rattle.std.specs.Option.{option_copied};
 ghost use Rattle.page_server.specs.Requests.{after_slash, folder_of, wanted_of, wanted_if, name_if};
@@ -6,17 +6,17 @@ ghost use Rattle.page_server.specs.Requests.{after_slash, folder_of, wanted_of, 
 use bridge_io::{Name, NameFault, NoMemory};
 use std::alloc::Global;
 
-/// A file that is made of a manifest.
+/// A file that is made from a manifest.
 #[derive(Drop)]
 pub struct Wanted {
     /// The manifest's name in the store.
     pub manifest: Name,
-    /// The file's name: the manifest's, `/` and one part more.
+    /// The file's name: the manifest's, `/` and one more part.
     pub file: Name,
 }
 
 impl Wanted {
-    /// The file that a path asks for: `/` and the file's name, of which the part before its last `/` is the manifest's name.
+    /// The file that a path asks for: `/` and the file's name; the part of that before its last `/` is the manifest's name.
     #[tactic(auto, unfolding(crate::specs::Requests::wanted_of))]
     pub fn at(alloc: Global, path: &str) -> Result<Option<Wanted>, NoMemory>
         ensures { IfOk result (λ wanted. wanted ≡ wanted_of path.now) }
@@ -31,14 +31,14 @@ impl Wanted {
     }
 }
 
-/// What follows the `/` that a path begins with.
+/// What follows the leading `/` of a path.
 fn after_slash(path: &str) -> Option<&str>
     ensures { option_copied result ≡ after_slash path.now }
 {
     path.strip_prefix('/')
 }
 
-/// What stands before the last `/`.
+/// What is before the last `/`.
 fn folder_of(file: &str) -> Option<&str>
     ensures { option_copied result ≡ folder_of file.now }
 {
@@ -57,7 +57,7 @@ fn named(alloc: Global, manifest: &str, file: &str) -> Result<Option<Wanted>, No
     Ok(Some(Wanted { manifest, file }))
 }
 
-/// The name that a text is, if it is one.
+/// A text as a name, if it is one.
 pub fn name_if(alloc: Global, text: &str) -> Result<Option<Name>, NoMemory>
     ensures { IfOk result (λ name. name ≡ name_if text.now) }
 {

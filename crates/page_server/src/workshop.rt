@@ -1,4 +1,4 @@
-// A maker, and what it holds the pages of.
+// A maker with a cache of its pages.
 ghost use Rattle.std.specs.Prelude.{◌≡◌, ℕ, List, OnOk, IfOk, IfSome, IsTrue};
 ghost use Rattle.page_server.specs.Pages.{held, Text};
 ghost use Rattle.page_server.specs.Shelves.{AreOf, on};
@@ -12,26 +12,26 @@ use bridge_io::{Name, NoMemory};
 use bytes::Bytes;
 use std::alloc::Global;
 
-/// A page that is kept, or that was copied.
+/// A page that is cached, or that was copied.
 #[derive(Drop)]
 pub enum Held {
     /// The text of a file.
     Text(Tagged),
     /// No file of this name is made.
     Missing,
-    /// The manifest is refused, for the reason that the line tells.
+    /// The manifest is rejected; the line says why.
     Refused(Bytes),
 }
 
-/// What pages were made of, and the texts of those that were asked for.
+/// What pages were made from, and the texts of those that were requested.
 #[derive(Drop)]
 pub struct Kept {
     manifest: Manifest,
     texts: Shelf,
 }
 
-/// A maker that is asked to make anew only where a manifest, with what was read for it, isn't the former one. A text is copied,
-/// and its tag reckoned, where it is asked for first.
+/// A maker that makes pages again only where the manifest, or a file that was read for it, differs from the previous one. A
+/// text is copied, and its ETag computed, at its first request.
 #[derive(Drop)]
 pub struct Workshop<M: Maker + Drop> {
     alloc: Global,
@@ -42,7 +42,7 @@ pub struct Workshop<M: Maker + Drop> {
 }
 
 impl<M: Maker + Drop> Workshop<M> {
-    /// A workshop that has no pages. It takes no memory.
+    /// A workshop without pages. It allocates nothing.
     pub fn new(alloc: Global, maker: M) -> Workshop<M>
         ensures { result.maker ≡ maker }
     {
@@ -53,7 +53,7 @@ impl<M: Maker + Drop> Workshop<M> {
         }
     }
 
-    /// What makes its pages.
+    /// The maker of its pages.
     pub fn maker(&self) -> &M
         ensures { result.now ≡ self.now.maker }
     {
@@ -107,7 +107,7 @@ impl<M: Maker + Drop> Workshop<M> {
         }
     }
 
-    /// The text of a file that was asked for before.
+    /// The text of a file that was requested before.
     fn text(&self, file: &Name) -> Result<Option<Tagged>, NoMemory>
         ensures { IfOk result (λ text. IfSome text (λ text. M.holds self.now.maker file.now ≡ Text text)) }
     {
@@ -117,7 +117,7 @@ impl<M: Maker + Drop> Workshop<M> {
         }
     }
 
-    /// Keeps the text of a file.
+    /// Caches the text of a file.
     fn keep(&mut self, file: &Name, text: Tagged) -> Result<(), NoMemory>
         requires { M.holds self.old.maker file.now ≡ Text text }
         ensures { self.new.maker ≡ self.old.maker }

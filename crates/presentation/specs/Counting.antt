@@ -1,4 +1,4 @@
--- How many segments are listed, and why they are refused where they are counted.
+-- How many segments are listed, and why counting rejects them.
 use Rattle.std.specs.Prelude.{ℕ, ◌+◌, ◌*◌, ◌==◌, ◌&&◌, ◌||◌, not, nat_lt, min, ◌-◌, ◌^◌, Bool, List, [], ◌∷◌, ◌++◌, length, slice_get}
 use Rattle.std.specs.{Prelude.{sum_by, flat_map, if◌then◌else◌, Option, Some, None, Result, Ok, Err, unwrap_or}, List.range_with_len}
 use Rattle.std.specs.{List.list_any, Option.option_map_or}
@@ -8,17 +8,17 @@ use Rattle.presentation.specs.{declared.fault.PresentationFault.PresentationFaul
 use Rattle.presentation.specs.{declared.fault.PresentationFault.TheVariants.{NoSegments, Timeline, Memory}, Presented.Presented}
 use Rattle.presentation.specs.Presented.{is_finished, window_of, content_at}
 
--- want of memory tells nothing of a presentation
+-- out of memory says nothing about a presentation
 abbrev pub refusal : PresentationFault → Option PresentationFault
 refusal Memory = None
 refusal fault = Some fault
 
--- the first of some faults, and a value where there is none
+-- the first of some faults, or a value where there is none
 abbrev pub unless_any : {X : Type 0} → List PresentationFault → X → Result X PresentationFault
 unless_any [] x = Ok x
 unless_any (fault ∷ faults) x = Err fault
 
--- the places of the sections, and of the tracks
+-- the indices of the sections, and of the tracks
 abbrev pub sections_of : Presented → List ℕ
 sections_of p = range_with_len 0 (length p.sections)
 
@@ -29,7 +29,7 @@ tracks_of p = range_with_len 0 (length p.tracks)
 abbrev pub count_at : Presented → ℕ → ℕ → Result ℕ TimeFault
 count_at p t s = option_map_or (λ content. answered_count content.runs (window_of p s)) (content_at p s t) (Ok 0)
 
--- where its Representation stands
+-- the position of its Representation
 abbrev pub place_at : Presented → ℕ → ℕ → Place
 place_at p t s = unwrap_or (slice_get p.places (s * length p.tracks + t)) (record { at = 0; line = 1 })
 
@@ -46,7 +46,7 @@ count_of_track p t = sum_by (listed_count p t) (sections_of p)
 abbrev pub count_of_all : Presented → ℕ
 count_of_all p = sum_by (count_of_track p) (tracks_of p)
 
--- a track has segments in each section of a finished presentation
+-- a track has segments in each section of a VOD presentation
 abbrev pub faults_of_count : (finished : Bool) → (t s : ℕ) → Place → Result ℕ TimeFault → List PresentationFault
 faults_of_count finished t s place (Err fault) = Timeline fault place ∷ []
 faults_of_count finished t s place (Ok n) = if finished && n == 0 then NoSegments s t ∷ [] else []
@@ -75,7 +75,7 @@ limit_faults over = if over then Limit ∷ [] else []
 abbrev pub count_faults : Presented → List PresentationFault
 count_faults p = flat_map (track_faults p) (tracks_of p) ++ limit_faults (is_over p)
 
--- the segments up to an open end that break a limit, without a count
+-- the fault of segments up to an open end that break a limit, without counting
 abbrev pub range_by : Presented → (t s : ℕ) → Result ℕ TimeFault → List PresentationFault
 range_by p t s (Ok n) = []
 range_by p t s (Err fault) = Timeline fault (place_at p t s) ∷ []
@@ -93,7 +93,7 @@ range_faults p = flat_map (range_faults_of p) (tracks_of p)
 unfoldable pub counted : Presented → Result ℕ PresentationFault
 counted p = unless_any (count_faults p) (count_of_all p)
 
--- ---- the same section by section and track by track, where counts stop at the last value of a counter
+-- ---- the same section by section and track by track; counts stop at the last value of a counter
 
 abbrev pub capped : ℕ → ℕ
 capped n = min (2 ^ 64 - 1) n

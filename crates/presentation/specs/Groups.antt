@@ -1,4 +1,4 @@
--- Audio groups (RFC 8216 4.3.4.1.1): which audio tracks a player may take beside a variant.
+-- Audio groups (RFC 8216 4.3.4.1.1): which audio tracks a player may combine with a variant.
 use Rattle.std.specs.Prelude.{ℕ, ◌+◌, ◌==◌, ◌&&◌, Bool, true, false, List, [], ◌∷◌, ◌++◌, map, take, position, count_by, bytes_eq}
 use Rattle.std.specs.{Prelude.{if◌then◌else◌, Option, Some, None, unwrap_or}, Option.option_eq, List.list_any}
 use Rattle.bridge_io.specs.{declared.media.Kind.Kind, declared.media.Kind.TheVariants.{Video, Audio, Text}}
@@ -13,7 +13,7 @@ is_audio Text = false
 abbrev pub same_text : List ℕ → List ℕ → Bool
 same_text one other = bytes_eq one other
 
--- an audio track with the codes of another track; that neither's are known is the same too
+-- an audio track with the codecs of another track; they are also the same where neither's are known
 abbrev pub has_codes_of : Track → Track → Bool
 has_codes_of track other = is_audio other.kind && option_eq same_text track.codecs other.codecs
 
@@ -21,7 +21,7 @@ has_codes_of track other = is_audio other.kind && option_eq same_text track.code
 abbrev pub is_alike : Track → Track → Bool
 is_alike track other = track.set == other.set && has_codes_of track other
 
--- an audio track by its set, the first track with its codes, and how many tracks before it are alike
+-- an audio track by its set, the first track with its codecs, and how many earlier tracks are alike
 abbrev pub rendition_at : List Track → ℕ → Track → Rendition
 rendition_at tracks place track = record {
   place = place;
@@ -30,7 +30,7 @@ rendition_at tracks place track = record {
   rank = count_by (is_alike track) (take place tracks);
 }
 
--- those that were found before, and those of the tracks from a place on
+-- those that were found before, and those of the tracks from an index on
 abbrev pub renditions_from : List Track → List Rendition → ℕ → List Track → List Rendition
 renditions_from tracks found place [] = found
 renditions_from tracks found place (track ∷ later) =
@@ -40,23 +40,23 @@ renditions_from tracks found place (track ∷ later) =
 abbrev pub renditions_of : List Track → List Rendition
 renditions_of tracks = renditions_from tracks [] 0 tracks
 
--- two renditions have the same codes and the same rank, or are of one set
+-- two renditions have the same codecs and the same rank, or are of the same set
 abbrev pub is_same : Sameness → Rendition → Rendition → Bool
 is_same Key one other = one.codes == other.codes && one.rank == other.rank
 is_same Set one other = one.set == other.set
 
--- what renditions have in common that are the same
+-- the key that such renditions have in common
 abbrev pub key_of : Sameness → Rendition → ℕ × ℕ
 key_of Key one = (one.codes, one.rank)
 key_of Set one = (one.set, 0)
 
--- those of some renditions that are the first of their kind, behind those that were found before
+-- those renditions that are the first of their kind, after those that were found before
 abbrev pub firsts : Sameness → List Rendition → List Rendition → List Rendition
 firsts sameness found [] = found
 firsts sameness found (one ∷ later) =
     if list_any (is_same sameness one) found then firsts sameness found later else firsts sameness (found ++ one ∷ []) later
 
--- the place of the last rendition of a set that has some codes
+-- the index of the last rendition of a set that has certain codecs
 abbrev pub last_of : (Rendition → Bool) → Option ℕ → List Rendition → Option ℕ
 last_of test last [] = last
 last_of test last (one ∷ later) = if test one then last_of test (Some one.place) later else last_of test last later
@@ -70,7 +70,7 @@ last_with_codes renditions key set = last_of (is_of_codes key set) None renditio
 abbrev pub is_of_key : (key set : Rendition) → Rendition → Bool
 is_of_key key set other = set.set == other.set && is_same Key key other
 
--- the place of the first one of a set that has a key
+-- the index of the first one of a set that has a key
 abbrev pub first_place : (Rendition → Bool) → List Rendition → Option ℕ
 first_place test [] = None
 first_place test (one ∷ later) = if test one then Some one.place else first_place test later
@@ -82,8 +82,8 @@ abbrev pub place_or : Option ℕ → ℕ → ℕ
 place_or (Some place) other = place
 place_or None other = other
 
--- a set's member of a group: the rendition with its codes and rank, otherwise the last one with its codes, otherwise
--- the set's first one
+-- a set's member of a group: the rendition with the group's codecs and rank, otherwise the last one with its codecs,
+-- otherwise the set's first one
 abbrev pub member_of : List Rendition → (key set : Rendition) → ℕ
 member_of renditions key set =
     place_or (first_with_key renditions key set) (unwrap_or (last_with_codes renditions key set) set.place)
@@ -92,8 +92,7 @@ member_of renditions key set =
 abbrev pub group_for : List Rendition → (sets : List Rendition) → Rendition → List ℕ
 group_for renditions sets key = map (member_of renditions key) sets
 
--- One group for each pair of codes and rank, and in each a member for each set, in the order in which they are first
--- seen.
+-- One group for each pair of codecs and rank, and in each a member for each set, in the order in which they first occur.
 unfoldable pub groups_of : List Track → List (List ℕ)
 groups_of tracks = let renditions = renditions_of tracks in
     map (group_for renditions (firsts Set [] renditions)) (firsts Key [] renditions)

@@ -1,4 +1,4 @@
--- What a `Presentation` stands for, and what it keeps true.
+-- The value of a `Presentation`, and its invariant.
 use Rattle.std.specs.Prelude.{◌≡◌, ℕ, map, List, length, All, Option, None, Some, option_map}
 use Rattle.presentation.specs.{declared.presentation.Presentation.TheInside.Inside, Groups.groups_of, Presented.{Presented, following_of}}
 use Rattle.presentation.specs.{Presented.{IsEnded, AreFilled}, declared.segments.Behind.Behind, Printing.{PrintedRest, PrintedTiming}}
@@ -17,14 +17,14 @@ presented p = record {
   places = p.places.items;
 }
 
--- There is one content for each section and track, its end is known where the presentation is finished, and the groups
--- are those of the tracks.
+-- There is one content for each section and track, its end is known where the presentation is VOD, and the groups are those
+-- of the tracks.
 pub record IsKept (p : Inside) : Type 0 where
   pub filled : AreFilled (length p.sections) (length p.tracks) (length p.contents)
   pub ended : p.following ≡ None → All IsEnded p.contents
   pub grouped : p.groups ≡ groups_of p.tracks
 
--- the segments that are left, with the durations that come next
+-- the durations of the segments that are left
 abbrev pub durations_behind : Rounding → List Timing → List ℕ
 durations_behind r xs = differences (total r) (map (λ x. floor_in r.unit (difference x.end r.first)) xs)
 
@@ -34,7 +34,7 @@ printed_left xs r = with_durations xs (durations_behind r xs)
 abbrev pub printed_rest : Rest → Rounding → PrintedRest
 printed_rest rest r = record { timeline = rest.timeline; left = printed_left rest.left r }
 
--- their ends may be given to the rounder in turn
+-- their ends are valid arguments for the rounder in turn
 pub record ArePacedBehind (xs : List Timing) (r : Rounding) : Type 0 where
   pub rising : IsRising r.former (ends_of xs)
   pub near : AreNear r.former (ends_of xs)
@@ -42,7 +42,7 @@ pub record ArePacedBehind (xs : List Timing) (r : Rounding) : Type 0 where
 abbrev pub IsPaced : Rest → Rounding → Type 0
 IsPaced rest r = ArePacedBehind rest.left r
 
--- where the rounder begins or goes on
+-- where the rounder begins or continues
 abbrev pub rounding_at : Option Behind → ℕ → List Timing → Rounding
 rounding_at None unit xs = rounding_from (begin_of xs) unit
 rounding_at (Some behind) unit xs = rounding_behind (time_of behind.first) unit (time_of behind.former)

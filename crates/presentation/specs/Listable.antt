@@ -1,8 +1,8 @@
--- Presentations whose segments can be gone over, whichever manifest they come from.
+-- Presentations whose segments can be listed, from either kind of manifest.
 use Rattle.std.specs.Prelude.{ℕ, ◌<◌, length, All, IfSome}
 use Rattle.presentation.specs.{Laws.HasAddress, Origins.CameFromPlaylists, Presented.{Presented, IsEnded, content_at, listed_at}}
 
--- what each track has in each section goes on to an end, and each listed segment has an address
+-- the content of each track in each section has an end, and each listed segment has a URL
 pub record AreListable (p : Presented) : Type 0 where
   pub ended : All IsEnded p.contents
   pub addressed : (s t : ℕ) → s < length p.sections → t < length p.tracks

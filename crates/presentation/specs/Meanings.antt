@@ -1,4 +1,4 @@
--- What a presentation means (ISO/IEC 23009-1, 5.3), without any limit, and without bounds on numbers and on the length of addresses.
+-- What a presentation means (ISO/IEC 23009-1, 5.3), without any limit, and without bounds on numbers and on the length of URLs.
 use Rattle.timeline.specs.declared.names.Names.TheVariants as names
 use Rattle.std.specs.Prelude.{ℕ, ◌+◌, ◌-◌, Bool, List, [], ◌∷◌, map, filter, length, slice_get, is_some, Option, Some, None}
 use Rattle.std.specs.{Prelude.{option_and_then, Ok, Err, if◌then◌else◌}, List.list_any}
@@ -13,14 +13,14 @@ use Rattle.meaning.specs.Meanings.{Segment, Entry, Meaning, Track as MeantTrack}
 use Rattle.presentation.specs.{declared.parts.Content.Content, declared.track.Track.Track, Counting.{sections_of, tracks_of}}
 use Rattle.presentation.specs.Presented.{Presented, content_at, listed_in, window_of}
 
--- ---- addresses of any length
+-- ---- URLs of any length
 
--- what the URL Standard writes of what it parsed, or nothing
+-- the serialization of a parsed URL by the URL Standard, or the empty text
 abbrev pub written : Parsed Parts → List ℕ
 written (Ok url) = text_of url
 written (Err fault) = []
 
--- the URL that a reference gives against a base, whatever its length, its scheme and its bytes (URL Standard, 4.4)
+-- the URL that a reference resolves to against a base, whatever its length, its scheme and its bytes (URL Standard, 4.4)
 unfoldable pub address_of : (base reference : List ℕ) → List ℕ
 address_of base reference = if is_absolute reference then written (parse_url None reference)
     else written (parse_url (url_of base) reference)
@@ -40,7 +40,7 @@ deepest base (reference ∷ references) = deepest (address_of base reference) re
 abbrev pub part_with : Option Range → List ℕ → Part
 part_with range address = record { address = address; range = range }
 
--- a place behind the last name has no address
+-- an index after the last name has no URL
 abbrev pub listed_part : (base : List ℕ) → Option RefPart → Part
 listed_part base None = part_with None base
 listed_part base (Some part) = part_with part.range (address_by base part.reference)
@@ -49,7 +49,7 @@ abbrev pub own_part : Option Part → Part
 own_part None = part_with None []
 own_part (Some part) = part
 
--- the address and range of the segment at a place, with a number and a media time
+-- the URL and byte range of the segment at an index, with a number and a media time
 abbrev pub part_by : Names → (place number time : ℕ) → Part
 part_by (names.Template media id bandwidth base) place number time =
     part_with None (address_of base (named media (record { id = id; bandwidth = bandwidth; number = number; time = time })))
@@ -57,7 +57,7 @@ part_by (names.List parts base) place number time = listed_part base (slice_get 
 part_by (names.Shared parts base) place number time = listed_part base (slice_get parts place)
 part_by (names.Addresses parts) place number time = own_part (slice_get parts place)
 
--- the file, or the part of one, that a segment is
+-- the file or byte range of a segment
 unfoldable pub part_meant : SegmentTimeline → Timing → Part
 part_meant timeline x = part_by timeline.names (x.number - timeline.first_number) x.number (media_time timeline x)
 
@@ -66,7 +66,7 @@ segment_of timeline x = record { part = part_meant timeline x; start = x.start; 
 
 -- ---- tracks over sections
 
--- what a track has in a section: nothing where no segment is listed
+-- the content of a track in a section: `None` where no segment is listed
 abbrev pub entry_with : Part → SegmentTimeline → List Timing → Option Entry
 entry_with initialization timeline [] = None
 entry_with initialization timeline (x ∷ xs) =
@@ -75,7 +75,7 @@ entry_with initialization timeline (x ∷ xs) =
 abbrev pub entry_of : Window → Content → Option Entry
 entry_of window content = entry_with content.initialization content.runs (listed_in window content.runs)
 
--- what a track holds, and its language, which a video track doesn't tell
+-- a track's kind, and its language, which a video track doesn't have
 pub record Head : Type 0 where
   pub kind : Kind
   pub language : Option (List ℕ)
@@ -88,15 +88,15 @@ language_of Text language = language
 abbrev pub head_with : Kind → Option (List ℕ) → Head
 head_with kind language = record { kind = kind; language = language_of kind language }
 
--- a section in which some track has something
+-- a section in which some track has content
 abbrev pub is_kept : List (Option Entry) → Bool
 is_kept entries = list_any is_some entries
 
--- what a track has in a section, of which the entries stand by track
+-- the content of a track in a section, whose entries are by track
 abbrev pub entry_in : (track : ℕ) → List (Option Entry) → Option Entry
 entry_in track entries = option_and_then (λ entry. entry) (slice_get entries track)
 
--- tracks, of which the first one has a place
+-- tracks, given the index of the first one
 abbrev pub tracks_from : (track : ℕ) → List (List (Option Entry)) → List Head → List MeantTrack
 tracks_from track rows [] = []
 tracks_from track rows (head ∷ heads) =
@@ -106,7 +106,7 @@ tracks_from track rows (head ∷ heads) =
 abbrev pub meaning_over : List Head → List (List (Option Entry)) → Meaning
 meaning_over heads rows = record { sections = length rows; tracks = tracks_from 0 rows heads }
 
--- the sections are those in which some track has something
+-- the sections are those in which some track has content
 abbrev pub meaning_with : List Head → List (List (Option Entry)) → Meaning
 meaning_with heads rows = meaning_over heads (filter is_kept rows)
 
@@ -121,7 +121,7 @@ entry_at p s t = option_and_then (entry_of (window_of p s)) (content_at p s t)
 abbrev pub row_at : Presented → (section : ℕ) → List (Option Entry)
 row_at p s = map (entry_at p s) (tracks_of p)
 
--- what the tracks have in each section
+-- the content of the tracks in each section
 abbrev pub rows_of : Presented → List (List (Option Entry))
 rows_of p = map (row_at p) (sections_of p)
 

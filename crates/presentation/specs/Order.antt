@@ -1,4 +1,4 @@
--- The order of tracks: video, then audio, then text, and when two have one language.
+-- The order of tracks: video, then audio, then text; and when two have the same language.
 use Rattle.std.specs.{Prelude.{ℕ, Bool, true, false, List, ◌++◌, filter, bytes_eq, Option}, Option.option_eq}
 use Rattle.bridge_io.specs.{declared.media.Kind.Kind, declared.media.Kind.TheVariants.{Video, Audio, Text}}
 

@@ -5,14 +5,14 @@ use Rattle.url_parts.specs.declared.address.Part.{Part}
 use Rattle.timeline.specs.{declared.names.Names.TheVariants.Addresses, Expansions.{SegmentTimeline, is_open}}
 use Rattle.presentation.specs.{declared.parts.Content.Content, declared.track.Track.Track, Presented.{Presented, AreFilled}}
 
--- segments up to an end, each with an address that needs no base
+-- segments up to an end, each with a URL of its own
 pub record IsAddressed (timeline : SegmentTimeline) : Type 0 where
   pub parts : List Part
   pub named : timeline.names ≡ Addresses parts
   pub ended : is_open timeline.members ≡ false
   pub paired : length timeline.members ≡ length parts
 
--- no place of a playlist tells a video track's language
+-- a playlist can't give a video track's language
 abbrev pub IsSilent : Track → Type 0
 IsSilent track = track.kind ≡ Video → track.language ≡ None
 

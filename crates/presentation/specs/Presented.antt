@@ -1,4 +1,4 @@
--- What a presentation is.
+-- Presentations.
 use Rattle.std.specs.Prelude.{◌≡◌, ℕ, ◌+◌, ◌*◌, ℤ, pos, ◌-ℤ◌, Bool, false, List, [], length, slice_get, Option, Some, None, option_map}
 use Rattle.std.specs.{Prelude.is_none, Option.option_map_or}
 use Rattle.bridge_io.specs.declared.place.Place.{Place}
@@ -6,15 +6,15 @@ use Rattle.timeline.specs.{declared.window.Window.Window, Expansions.{SegmentTim
 use Rattle.presentation.specs.{declared.presentation.Following.Following as Kept, declared.track.Track.Track}
 use Rattle.presentation.specs.{declared.track.Section.Section, declared.parts.Content.Content, declared.parts.Parts.Parts}
 
--- When a followed presentation is looked at: the instant, availabilityStartTime and timeShiftBufferDepth, in
--- nanoseconds (ISO/IEC 23009-1, 5.3.1.2).
+-- The timing of a followed presentation: the current time, availabilityStartTime and timeShiftBufferDepth, in nanoseconds
+-- (ISO/IEC 23009-1, 5.3.1.2).
 pub record Following : Type 0 where
   pub instant : ℤ
   pub availability_start : ℤ
   pub depth : Option ℕ
 
--- The tracks, the sections, and what each track has in each section, by section, then by track; how many sets and
--- tracks were left out; when it is looked at, where it is followed; and where each Representation stands.
+-- The tracks, the sections, and the content of each track in each section, by section, then by track; how many sets and
+-- tracks were dropped; the timing, where it is followed; and the position of each Representation.
 pub record Presented : Type 0 where
   pub tracks : List Track
   pub sections : List Section
@@ -23,7 +23,7 @@ pub record Presented : Type 0 where
   pub following : Option Following
   pub places : List Place
 
--- what parts make, looked at at an instant where they are followed, of which the Representations stand at these places
+-- the presentation of parts, with its timing where it is followed, and the positions of its Representations
 abbrev pub of_placed : Parts → Option Following → List Place → Presented
 of_placed parts following places = record {
   tracks = parts.tracks;
@@ -34,44 +34,44 @@ of_placed parts following places = record {
   places = places;
 }
 
--- what parts make that are finished
+-- the VOD presentation of parts
 abbrev pub of_parts : Parts → Presented
 of_parts parts = of_placed parts None []
 
--- the same of what the code keeps
+-- the value of the code's type
 abbrev pub following_of : Kept → Following
 following_of f = record { instant = f.instant; availability_start = f.availability_start; depth = f.depth }
 
 abbrev pub is_finished : Presented → Bool
 is_finished p = is_none p.following
 
--- from a Period's start: the instant since which segments are listed, and that by which they are
+-- relative to a Period's start: the time after which listed segments end, and the time by which they do
 abbrev pub window_at : Following → ℕ → Window
 window_at f start = let until = (f.instant -ℤ f.availability_start) -ℤ pos start in
     record { after = option_map (λ depth. until -ℤ pos depth) f.depth; until = Some until }
 
--- the same at another instant
+-- the same at another time
 abbrev pub at_instant : ℤ → Following → Following
 at_instant now f = record f { instant = now }
 
 abbrev pub looked_at : ℤ → Presented → Presented
 looked_at now p = record p { following = option_map (at_instant now) p.following }
 
--- a finished presentation lists all segments
+-- a VOD presentation lists all segments
 abbrev pub whole_window : Window
 whole_window = record { after = None; until = None }
 
 abbrev pub start_of : Presented → ℕ → ℕ
 start_of p s = option_map_or (λ section. section.start) (slice_get p.sections s) 0
 
--- what is listed of a Period with this start, and of a section's
+-- the window of a Period with this start, and that of a section
 abbrev pub window_from : Presented → (start : ℕ) → Window
 window_from p start = option_map_or (λ f. window_at f start) p.following whole_window
 
 abbrev pub window_of : Presented → ℕ → Window
 window_of p s = window_from p (start_of p s)
 
--- what a track has in a section
+-- the content of a track in a section
 abbrev pub content_at : Presented → ℕ → ℕ → Option Content
 content_at p s t = slice_get p.contents (s * length p.tracks + t)
 
@@ -82,7 +82,7 @@ listed_in window timeline = listed window (expansion timeline window)
 abbrev pub listed_at : Presented → ℕ → ℕ → List Timing
 listed_at p s t = option_map_or (λ content. listed_in (window_of p s) content.runs) (content_at p s t) []
 
--- segments go on to an open end
+-- no segments continue to an open end
 abbrev pub IsEnded : Content → Type 0
 IsEnded content = is_open content.runs.members ≡ false
 

@@ -1,4 +1,4 @@
--- Segments with the durations that are printed of them.
+-- Segments with their printed durations.
 use Rattle.std.specs.Prelude.{◌≡◌, ℕ, ◌<◌, ◌^◌, List, [], ◌∷◌, map, filter, drop, ◌++◌, All, false, ◌+◌, ◌≤◌, Option, Some, None, Result}
 use Rattle.std.specs.Prelude.{Ok, Err, IsSome, IfSome, slice_get}
 use Rattle.exact_time.specs.{Time.{Time, IsAtMost, before, seconds}, Tick.time_of, Rounding.printed, Equal.summed_up}
@@ -28,14 +28,14 @@ begin_of (x ∷ xs) = x.start
 abbrev pub ends_of : List Timing → List Time
 ends_of xs = map (λ x. x.end) xs
 
--- the durations of some segments in units of which so many make a second
+-- the durations of some segments; the first argument is the units per second
 abbrev pub durations_of : ℕ → List Timing → List ℕ
 durations_of unit xs = printed unit (begin_of xs) (ends_of xs)
 
 abbrev pub printed_timings : ℕ → List Timing → List PrintedTiming
 printed_timings unit xs = with_durations xs (durations_of unit xs)
 
--- what is left of segments that are made one by one
+-- the rest of segments that are made one by one
 pub record PrintedRest : Type 0 where
   pub timeline : SegmentTimeline
   pub left : List PrintedTiming
@@ -48,12 +48,12 @@ rest_of timeline xs unit = record { timeline = timeline; left = printed_timings 
 abbrev pub later_than : Time → List Timing → List Timing
 later_than former xs = filter (λ x. before former x.end) xs
 
--- The durations of segments that go on behind others, of which the first one began at a time, and the last one ended at
--- another one: what is printed of them behind that one.
+-- The printed durations of segments that continue after others, of which the first one began at `first`, and the last one
+-- ended at `former`.
 abbrev pub durations_after : ℕ → (first former : Time) → List Timing → List ℕ
 durations_after unit first former xs = drop 1 (printed unit first (former ∷ ends_of xs))
 
--- all of some segments, or those that go on behind others
+-- all of some segments, or those that continue after others
 abbrev pub listed_behind : Option Behind → List Timing → List Timing
 listed_behind None xs = xs
 listed_behind (Some behind) xs = later_than (time_of behind.former) xs
@@ -70,7 +70,7 @@ rest_behind behind timeline xs unit = record { timeline = timeline; left = print
 abbrev pub extent_of : Timing → Extent
 extent_of x = record { start = x.start; end = x.end }
 
--- the first of some segments has no gap or overlap behind a time of more than half its duration
+-- the gap or overlap between a time and the first of some segments is at most half its duration
 abbrev pub FollowsNear : Time → List Timing → Type 0
 FollowsNear former xs = IfSome (slice_get xs 0) (λ x. is_apart (Some former) (extent_of x) ≡ false)
 
@@ -78,20 +78,20 @@ pub record GoesOn (xs : List Timing) (behind : Behind) : Type 0 where
   pub begun : IsAtMost (time_of behind.first) (time_of behind.former)
   pub near : FollowsNear (time_of behind.former) (later_than (time_of behind.former) xs)
 
--- segments that go on to an open end break no limit by the instant
+-- segments that continue to an open end break no limit at the current time
 abbrev pub IsCounted : Presented → ℕ → ℕ → Type 0
 IsCounted p s t = IfSome (content_at p s t) (λ content. IsReached content.runs (window_of p s))
 
--- all that a track has in a section
+-- all segments of a track in a section
 abbrev pub IsPrintedOf : Presented → ℕ → ℕ → ℕ → PrintedRest → Type 0
 IsPrintedOf p s t unit rest = IfSome (content_at p s t) (λ content. rest ≡ rest_of content.runs (listed_at p s t) unit)
 
--- what it has there behind others
+-- those after others
 abbrev pub IsPrintedBehind : Presented → ℕ → ℕ → Option Behind → ℕ → PrintedRest → Type 0
 IsPrintedBehind p s t behind unit rest =
     IfSome (content_at p s t) (λ content. rest ≡ rest_behind behind content.runs (listed_at p s t) unit)
 
--- the next segment was made, with its own address and its duration
+-- the next segment was made, with its own URL and its duration
 pub record IsNext (old : PrintedRest) (made : Made) (duration : ℕ) (new : PrintedRest) : Type 0 where
   pub next : old.left ≡ record { times = made.times; duration = duration } ∷ new.left
   pub part : part_of_timing old.timeline made.times ≡ Ok made.part
@@ -102,7 +102,7 @@ pub record IsAtEnd (old new : PrintedRest) : Type 0 where
   pub none : old.left ≡ []
   pub same : new ≡ old
 
--- the next segment has no address, or memory was wanting, and nothing has changed
+-- the next segment has no URL, or memory ran out, and nothing has changed
 pub record IsHeld (old : PrintedRest) (fault : ListFault) (new : PrintedRest) : Type 0 where
   pub same : new ≡ old
   pub some : IsSome (slice_get old.left 0)
@@ -115,7 +115,7 @@ pub record IsPassed (old : PrintedRest) (times : Timing) (duration : ℕ) (new :
   pub countable : times.number < 2 ^ 64
   pub timeline : new.timeline ≡ old.timeline
 
--- the next segment, which has an address, was passed or made
+-- the next segment, which has a URL, was passed or made
 pub record IsStep (old : PrintedRest) (duration : ℕ) (new : PrintedRest) : Type 0 where
   pub times : Timing
   pub part : Part
@@ -127,8 +127,8 @@ pub record IsStep (old : PrintedRest) (duration : ℕ) (new : PrintedRest) : Typ
 abbrev pub timed : Span × ℕ → PrintedTiming
 timed passed = record { times = timing_of passed.0; duration = passed.1 }
 
--- The next segments, each as long as the first one, were passed: with its printed duration, and those of the others, which
--- are as many, with their sum and the longest one.
+-- The next segments, each as long as the first one, were passed: with the first one's printed duration, and the number, sum
+-- and maximum of those of the others.
 pub record IsNextRun (old : List PrintedTiming) (run : PrintedRun) (new : List PrintedTiming) : Type 0 where
   pub durations : List ℕ
   pub next : old ≡ with_durations (timings_of run.spans) (run.first ∷ durations) ++ new

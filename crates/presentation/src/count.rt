@@ -6,13 +6,13 @@ use crate::{Presentation, PresentationFault};
 use bridge_io::Place;
 use timeline::TimeFault;
 
-/// How many segments a track may have.
+/// The most segments of a track.
 const TRACK_LIMIT: u64 = 100_000;
 
-/// How many segments all tracks may have.
+/// The most segments of all tracks.
 const LIMIT: u64 = 500_000;
 
-/// What is counted so far. Counts stop at the last value of a counter.
+/// The counts so far. Counts stop at the last value of a counter.
 #[derive(Clone, Copy)]
 struct Tally {
     total: u64,
@@ -31,7 +31,7 @@ impl Tally {
         }
     }
 
-    /// How many segments there are, unless they are too many.
+    /// How many segments there are, unless there are too many.
     fn finish(self) -> Result<u64, PresentationFault>
         ensures { result ≡ spec.unless_over (self.is_over || nat_lt 500000 self.total) self.total }
     {
@@ -43,10 +43,10 @@ impl Tally {
 }
 
 impl Presentation {
-    /// How many segments are listed in all. The first of these faults is told, track by track and section by section:
-    /// Timeline where the segments up to an open end break a limit; NoSegments where a track of a finished presentation
-    /// has none in a section, or one of a followed presentation has none at all. Limit comes last: more than 100,000
-    /// segments of a track, or 500,000 in all. It takes no memory.
+    /// How many segments are listed in all. The first of these faults is returned, track by track and section by
+    /// section: `Timeline` where the segments up to an open end break a limit; `NoSegments` where a track of a VOD
+    /// presentation has none in a section, or one of a followed presentation has none at all. `Limit` comes last: more
+    /// than 100,000 segments of a track, or 500,000 in all. It allocates nothing.
     pub fn count(&self) -> Result<u64, PresentationFault>
         ensures { result ≡ spec.counted self.now }
     {
@@ -78,7 +78,7 @@ impl Presentation {
         self.finish_track(track, total)
     }
 
-    /// How many segments of a track are listed: a followed presentation has some of each.
+    /// How many segments of a track are listed: a followed presentation has to have some.
     fn finish_track(&self, track: usize, total: u64) -> Result<u64, PresentationFault>
         requires { total ≡ spec.capped (spec.count_of_track self.now track) }
         ensures { result ≡ spec.unless_any (spec.whole_track_faults self.now track) total }
@@ -119,7 +119,7 @@ impl Presentation {
         PresentationFault::Timeline(fault, place)
     }
 
-    /// Where a Representation stands.
+    /// The position of a Representation.
     fn place_of(&self, section: usize, track: usize) -> Place
         requires section { section < length self.now.sections }
         requires track { track < length self.now.tracks }

@@ -8,9 +8,9 @@ use crate::{Presentation, PresentationFault};
 use iso_time::Instant;
 
 impl Presentation {
-    /// Looks, at another instant, whether the segments up to an open end break no limit. Otherwise it is Timeline, at the
-    /// first track and section where they do. The presentation stays as it is, and nothing is judged of how many segments
-    /// there are. It takes no memory.
+    /// Checks, for another time, whether the segments up to an open end break no limit. The fault is `Timeline`, at the
+    /// first track and section where they do. The presentation doesn't change, and the number of segments isn't checked.
+    /// It allocates nothing.
     pub fn check_ends(&self, now: Instant) -> Result<(), PresentationFault>
         ensures { result ≡ unless_any (spec.range_faults (looked_at now self.now)) tt }
     {
@@ -34,7 +34,7 @@ impl Presentation {
         Ok(())
     }
 
-    /// The same of a track in a section.
+    /// The same for a track in a section.
     fn check_end(&self, section: usize, track: usize, now: Instant) -> Result<(), PresentationFault>
         requires section { section < length self.now.sections }
         requires track { track < length self.now.tracks }

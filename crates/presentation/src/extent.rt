@@ -1,4 +1,4 @@
-// How long a track is in a section.
+// The duration of a track in a section.
 ghost use Rattle.std.specs.Prelude.{◌≡◌, ◌^◌, ◌<◌, length};
 ghost use Rattle.presentation.specs.Presented.{listed_at};
 ghost use Rattle.presentation.specs.Printing.{IsCounted};
@@ -12,7 +12,7 @@ use crate::Presentation;
 use exact_time::{Digits, Tick, floor_unit};
 use timeline::{Span, TimeWalk};
 
-/// How many segments a track has in a section, and how long they last.
+/// The number and the total duration of a track's segments in a section.
 #[derive(Clone, Copy, PartialEq, Eq)]
 pub struct Extent {
     /// How many segments are listed.
@@ -23,9 +23,9 @@ pub struct Extent {
 }
 
 impl Presentation {
-    /// How many segments of a track are listed in a section, and how long they last. It takes no memory.
+    /// The number and the total duration of a track's listed segments in a section. It allocates nothing.
     ///
-    /// Requires that both are in range, and that `count` answered how many segments are listed.
+    /// Requires that both are in range, and that `count` succeeded.
     pub fn extent(&self, section: usize, track: usize, digits: Digits) -> Extent
         requires section { section < length self.now.sections }
         requires track { track < length self.now.tracks }
@@ -49,7 +49,7 @@ impl Presentation {
     }
 }
 
-/// When the last of some segments ends that follow on a first one.
+/// The end of the last of some segments that follow a first one.
 fn last_end(walk: TimeWalk<'_>, first: Span) -> Tick
     requires rising { IsRising (time_of first.end) (ends_of walk) }
     requires lasts { IsAtMost (time_of first.start) (time_of first.end) }

@@ -1,4 +1,4 @@
-// Why a presentation is refused.
+// Why a presentation is rejected.
 ghost use Rattle.presentation.specs.declared.fault.PresentationFault.TheVariants.{Memory};
 
 use bridge_io::{NoMemory, Place};
@@ -7,18 +7,18 @@ use thiserror::Error;
 use timeline::TimeFault;
 use url_parts::UrlFault;
 
-/// Where an address is refused.
+/// Where a URL is rejected.
 #[derive(Clone, Copy, PartialEq, Eq, Debug)]
 pub enum Spot {
     /// At a Representation.
     At(Place),
     /// At a listed segment, counted from 0.
     Segment {
-        /// The section's place.
+        /// The section's index.
         section: usize,
-        /// The track's place.
+        /// The track's index.
         track: usize,
-        /// The segment's place among those that are listed there.
+        /// The segment's index among those that are listed there.
         segment: u64,
     },
 }
@@ -26,7 +26,7 @@ pub enum Spot {
 /// Why there is no presentation.
 #[derive(Clone, Copy, PartialEq, Eq, Debug, Error)]
 pub enum PresentationFault {
-    /// A Period hasn't the tracks of the first one. It is told at the Period.
+    /// A Period doesn't have the tracks of the first one: the Period.
     #[error("the Periods differ in their tracks")]
     PeriodsDiffer(Place),
     /// There are more than 1,000 sections, 200 tracks, 100,000 segments of a track, or 500,000 in all.
@@ -35,29 +35,29 @@ pub enum PresentationFault {
     /// A track without segments in a section; of a followed presentation, a track without any.
     #[error("a track has no segments")]
     NoSegments {
-        /// The section's place, from 0; 0 for a track without any.
+        /// The section's index, from 0; 0 for a track without any.
         section: usize,
-        /// The track's place, from 0.
+        /// The track's index, from 0.
         track: usize,
     },
-    /// An address is refused.
+    /// A URL is rejected.
     #[error("an address is refused")]
     Url(UrlFault, Spot),
-    /// A template is refused, at its Representation.
+    /// A template is rejected: its Representation.
     #[error("a template is refused")]
     Template(TemplateFault, Place),
-    /// Times are refused, at their Representation.
+    /// Segment times are rejected: their Representation.
     #[error("times are refused")]
     Timeline(TimeFault, Place),
-    /// A followed presentation is asked for without an instant.
+    /// A live MPD is read without a current time.
     #[error("an instant is needed")]
     NeedsNow,
-    /// Memory is wanting.
+    /// Out of memory.
     #[error("out of memory")]
     Memory,
 }
 
-/// Every error that tells want of memory alone.
+/// Every error that only means out of memory.
 impl<E: Drop> From<E> for PresentationFault
 where
     NoMemory: From<E>,

@@ -8,19 +8,19 @@ use bridge_io::{Kind, NoMemory, Text};
 use indexmap::IndexSet;
 use std::alloc::Global;
 
-/// An audio track among those of its set.
+/// An audio track within its set.
 #[derive(Clone, Copy)]
 pub(crate) struct Rendition {
     pub(crate) place: usize,
     pub(crate) set: usize,
-    /// The place of the first audio track with the same codes.
+    /// The index of the first audio track with the same codecs.
     pub(crate) codes: usize,
-    /// How many tracks with the same codes stand before it in its set.
+    /// How many tracks with the same codecs are before it in its set.
     pub(crate) rank: usize,
 }
 
-/// One group for each pair of codes and rank, in the order in which these are first seen, and in each group one rendition
-/// for each audio set.
+/// One group for each pair of codecs and rank, in the order in which these first occur; each group has one rendition for
+/// each audio set.
 #[tactic(auto, unfolding(crate::specs::Groups::groups_of))]
 pub(crate) fn groups_of(alloc: Global, tracks: &[Track]) -> Result<GroupList, NoMemory>
     ensures { IfOk result (λ groups. groups ≡ spec.groups_of tracks.now) }
@@ -102,13 +102,13 @@ fn is_same_text(one: &Option<Text>, other: &Option<Text>) -> bool
 /// What two renditions have in common.
 #[derive(Clone, Copy)]
 pub(crate) enum Sameness {
-    /// Codes and rank.
+    /// Codecs and rank.
     Key,
     Set,
 }
 
 impl Sameness {
-    /// What renditions have in common of which this holds.
+    /// The key that such renditions have in common.
     fn key(self, rendition: Rendition) -> (usize, usize)
         ensures { result ≡ spec.key_of self rendition }
     {
@@ -128,7 +128,7 @@ impl Sameness {
     }
 }
 
-/// The renditions that have nothing in common with one before them.
+/// The renditions that have nothing in common with an earlier one.
 fn firsts(
     alloc: Global,
     renditions: &[Rendition],
@@ -162,7 +162,8 @@ fn group_of(
     Ok(group)
 }
 
-/// A set's rendition in a group: the one with its key, otherwise the last one with its codes, otherwise the first one.
+/// A set's rendition in a group: the one with the group's key, otherwise the last one with its codecs, otherwise the
+/// first one.
 fn member_of(renditions: &[Rendition], key: Rendition, set: Rendition) -> usize
     ensures { result ≡ spec.member_of renditions.now key set }
 {

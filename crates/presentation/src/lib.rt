@@ -1,4 +1,4 @@
-//! A presentation: tracks over sections, with their segments, whichever manifest they come from.
+//! A presentation: tracks over sections, with their segments, from either kind of manifest.
 #![tactic(auto)]
 
 mod count;
@@ -32,11 +32,11 @@ pub type TrackList = Sequence<Track>;
 /// Sections in order.
 pub type SectionList = Sequence<Section>;
 
-/// Audio groups: by group, then by audio set, the place of a track.
+/// Audio groups: by group, then by audio set, the index of a track.
 pub type GroupList = Sequence<Group>;
 
 /// The tracks of an audio group, one for each audio set.
 pub type Group = Sequence<usize>;
 
-/// What the tracks have in the sections: by section, then by track.
+/// The contents of the tracks in the sections: by section, then by track.
 pub type ContentList = Sequence<Content>;

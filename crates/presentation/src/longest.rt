@@ -27,7 +27,7 @@ impl Longest {
         Longest { durations }
     }
 
-    /// The longest printed duration of a track. It takes no memory.
+    /// The longest printed duration of a track. It allocates nothing.
     ///
     /// Requires that the track is in range.
     pub fn of(&self, track: usize) -> u64

@@ -1,4 +1,4 @@
-// A presentation and what it shows of itself.
+// Presentations.
 ghost use Rattle.std.specs.Prelude.{◌≡◌, ℕ, ℤ, ◌<◌, ◌*◌, ◌+◌, ◌^◌, ◌-ℤ◌, unsigned_abs, length, All, None, Some, IfOk, option_map};
 ghost use Rattle.presentation.specs.Presented.{of_parts, of_placed, content_at, start_of, looked_at, following_of, IsEnded, AreFilled};
 ghost use Rattle.presentation.specs.Presented.{window_of, window_at, window_from};
@@ -15,10 +15,10 @@ use std::marker::Model;
 use timeline::{Runs, Window};
 use url_parts::Part;
 
-/// When a followed presentation is looked at (ISO/IEC 23009-1, 5.3.1.2).
+/// The timing of a followed presentation (ISO/IEC 23009-1, 5.3.1.2).
 #[derive(Clone, Copy)]
 pub struct Following {
-    /// The instant at which it is looked at.
+    /// The current time.
     pub instant: Instant,
     /// `@availabilityStartTime`.
     pub availability_start: Instant,
@@ -27,7 +27,7 @@ pub struct Following {
 }
 
 impl Following {
-    /// The segments that are listed of a Period with this start.
+    /// The window of the listed segments in a Period with this start.
     pub(crate) fn window(&self, start: Nanos) -> Window
         ensures { result ≡ window_at (following_of self.now) start }
     {
@@ -44,7 +44,7 @@ impl Following {
     }
 }
 
-/// One time less another, in nanoseconds.
+/// The difference of two times, in nanoseconds.
 fn minus(time: i128, less: i128) -> i128
     requires time { unsigned_abs time < 2 ^ 100 }
     requires less { unsigned_abs less < 2 ^ 100 }
@@ -55,7 +55,8 @@ fn minus(time: i128, less: i128) -> i128
 
 /// Tracks over sections, with their segments.
 ///
-/// In a contract it is its tracks, its sections and what they have in one another, and when it is looked at.
+/// In a contract it is its tracks, its sections, the contents of the tracks in the sections, and the timing of a
+/// followed one.
 #[derive(Drop)]
 pub struct Presentation {
     pub(crate) tracks: TrackList,
@@ -64,7 +65,7 @@ pub struct Presentation {
     pub(crate) left_out: u64,
     pub(crate) groups: GroupList,
     pub(crate) following: Option<Following>,
-    /// Where the Representations of the contents stand, where they come from an MPD.
+    /// The positions of the contents' Representations, where they come from an MPD.
     pub(crate) places: Vec<Place>,
 }
 
@@ -87,8 +88,8 @@ impl Presentation {
 
     /// The presentation of these parts.
     ///
-    /// Requires that there is one content for each section and track, and that no content's segments go on to an open
-    /// end.
+    /// Requires that there is one content for each section and track, and that no content's segments continue to an
+    /// open end.
     pub fn from_parts(alloc: Global, parts: Parts) -> Result<Presentation, NoMemory>
         requires filled { AreFilled (length parts.sections) (length parts.tracks) (length parts.contents) }
         requires ended { All IsEnded parts.contents }
@@ -97,10 +98,10 @@ impl Presentation {
         Presentation::from_placed(alloc, parts, None, Vec::new(alloc))
     }
 
-    /// The presentation of these parts, looked at at an instant where it is followed. `places` are those in an MPD of the
-    /// Representations that the contents are of.
+    /// The presentation of these parts, with its timing where it is followed. `places` are the positions of the contents'
+    /// Representations in an MPD.
     ///
-    /// Requires that there is one content for each section and track, and that no content's segments go on to an open
+    /// Requires that there is one content for each section and track, and that no content's segments continue to an open
     /// end where the presentation isn't followed.
     pub fn from_placed(
         alloc: Global,
@@ -138,22 +139,22 @@ impl Presentation {
         &self.sections
     }
 
-    /// How many sets and tracks were left out.
+    /// How many sets and tracks were dropped.
     pub fn left_out(&self) -> u64
         ensures { result ≡ self.now.left_out }
     {
         self.left_out
     }
 
-    /// The audio groups: one for each pair of codes and rank of an audio track in its set, in the order in which these are
-    /// first seen, and in each one track for each audio set (RFC 8216, 4.3.4.1.1).
+    /// The audio groups: one for each pair of codecs and rank of an audio track in its set, in the order in which these
+    /// first occur; each has one track for each audio set (RFC 8216, 4.3.4.1.1).
     pub fn groups(&self) -> &GroupList
         ensures { result.now ≡ groups_of self.now.tracks }
     {
         &self.groups
     }
 
-    /// The segments of a track in a section. The windows of all sections fit them, at each instant.
+    /// The segments of a track in a section. The windows of all sections fit them, at each time.
     ///
     /// Requires that both are in range.
     pub fn runs(&self, section: usize, track: usize) -> &Runs
@@ -166,7 +167,7 @@ impl Presentation {
         &self.content(section, track).runs
     }
 
-    /// The initialization part of a track in a section.
+    /// The init segment of a track in a section.
     ///
     /// Requires that both are in range.
     pub fn initialization(&self, section: usize, track: usize) -> &Part
@@ -177,7 +178,7 @@ impl Presentation {
         &self.content(section, track).initialization
     }
 
-    /// The segments that are listed of a section's Period: all of a finished presentation.
+    /// The window of the listed segments in a section: all in a VOD presentation.
     ///
     /// Requires that the section is in range.
     pub fn window(&self, section: usize) -> Window
@@ -193,8 +194,8 @@ impl Presentation {
         following.window(self.start_of(section))
     }
 
-    /// The segments that are listed of a Period with this start at another instant: all of a finished presentation. The
-    /// presentation stays as it is. It takes no memory.
+    /// The window of the listed segments in a Period with this start at another time: all in a VOD presentation. The
+    /// presentation doesn't change. It allocates nothing.
     pub fn window_from(&self, start: Nanos, now: Instant) -> Window
         ensures { result ≡ window_from (looked_at now self.now) start }
     {
@@ -208,7 +209,7 @@ impl Presentation {
         following.window(start)
     }
 
-    /// Looks at a followed presentation at another instant. A finished one stays as it is.
+    /// Sets the current time of a followed presentation. A VOD one doesn't change.
     pub fn set_now(&mut self, now: Instant)
         requires { IsReadable now }
         ensures { self.new ≡ looked_at now self.old }
@@ -226,7 +227,7 @@ impl Presentation {
         self.sections.as_slice()[section].start
     }
 
-    /// What a track has in a section.
+    /// The content of a track in a section.
     pub(crate) fn content(&self, section: usize, track: usize) -> &Content
         requires section { section < length self.now.sections }
         requires track { track < length self.now.tracks }
@@ -237,7 +238,7 @@ impl Presentation {
         &self.contents.as_slice()[self.place_in(section, track)]
     }
 
-    /// The place of what a track has in a section.
+    /// The index of the content of a track in a section.
     pub(crate) fn place_in(&self, section: usize, track: usize) -> usize
         requires section { section < length self.now.sections }
         requires track { track < length self.now.tracks }

@@ -1,4 +1,4 @@
-// Segments one by one, with their printed durations.
+// Segments one by one, with their printed durations (EXTINF).
 ghost use Rattle.std.specs.Prelude.{◌≡◌, ◌+◌, ◌^◌, ◌<◌, length, true, IfOk, IfSome, MatchOption, MatchResult};
 ghost use Rattle.exact_time.specs.Rounding.{rounding_from};
 ghost use Rattle.presentation.specs.Kept.{rounding_at};
@@ -18,9 +18,8 @@ use timeline::{
     AddressWriter, Cursor, ListFault, Listing, Runs, Segment, Span, SpanRun, TimeWalk, Window,
 };
 
-/// The listed segments of a track in a section, each made when it is asked for, with the duration that is printed of it.
-/// Printed durations never drift: up to each segment they sum to the exact time from the first one's start to that
-/// segment's end, rounded down.
+/// An iterator over the listed segments of a track in a section, with their printed durations. Printed durations never
+/// drift: up to each segment they sum to the exact time from the first one's start to that segment's end, rounded down.
 ///
 /// In a contract it is the segments with their names, and the times and printed durations of those that are left.
 #[derive(Drop)]
@@ -41,28 +40,28 @@ impl<'a> Model for PrintedSegments<'a> {
     ghost invariant = { λ s. IsPaced s.listing s.rounder };
 }
 
-/// Segments that were printed before, behind which others go on.
+/// Segments that were printed before, after which others continue.
 #[derive(Clone, Copy, PartialEq, Eq)]
 pub struct Behind {
-    /// When the first one began, counted from the Period's start.
+    /// When the first one began, relative to the Period's start.
     pub first: Tick,
     /// When the last one ended.
     pub former: Tick,
 }
 
-/// Segments that follow one another, each as long as the first one, with the durations that are printed of them in units of
-/// the last decimal.
+/// Segments that follow one another, each as long as the first one, with their printed durations in units of the last
+/// decimal.
 #[derive(Clone, Copy, PartialEq, Eq)]
 pub struct PrintedRun {
     /// Their times.
     pub spans: SpanRun,
-    /// The duration of the first one, which may follow on a gap.
+    /// The duration of the first one, which may follow a gap.
     pub first: u64,
     /// The durations of the others.
     pub others: Equal,
 }
 
-/// The times of listed segments in order, with their printed durations in units of the last decimal.
+/// An iterator over the times of listed segments in order, with their printed durations in units of the last decimal.
 ///
 /// In a contract it is the times and printed durations of those that are left.
 #[derive(Drop)]
@@ -87,8 +86,8 @@ impl<'a> Model for PrintedTimes<'a> {
 impl<'a> PrintedTimes<'a> {
     ghost use Rattle.std.specs.Prelude.{[]};
 
-    /// Goes behind the next segments that are equally long, and tells them at once with their printed durations, in a few
-    /// divisions, however many they are. There are none exactly at the end.
+    /// Moves past the next segments of equal length, and returns them at once with their printed durations, in a few
+    /// divisions, however many they are. `None` exactly at the end.
     pub fn next_run(&mut self) -> Option<PrintedRun>
         ensures { MatchOption result ((self.old ≡ []) × (self.new ≡ [])) (λ run. spec.IsNextRun self.old run self.new) }
     {
@@ -138,7 +137,7 @@ impl Iterator for PrintedTimes<'_> {
 }
 
 impl<'a> PrintedSegments<'a> {
-    /// The segments that are listed in a window, behind others or all of them.
+    /// The listed segments in a window, after others or all of them.
     fn of(
         runs: &'a Runs,
         window: &Window,
@@ -157,8 +156,8 @@ impl<'a> PrintedSegments<'a> {
         }
     }
 
-    /// Makes the next segment, counts it, and tells its printed duration in units of the last decimal. There is none
-    /// exactly at the end. After a refusal the same segment is the next one, and nothing is counted.
+    /// Makes the next segment, counts it, and returns its printed duration in units of the last decimal. `None`
+    /// exactly at the end. After an error the same segment is the next one, and nothing is counted.
     #[inline(always)]
     pub fn next<L: Ledger>(
         &mut self,
@@ -180,8 +179,8 @@ impl<'a> PrintedSegments<'a> {
         }
     }
 
-    /// Goes behind the next segment without its address, counts it, and tells its times and its printed duration in units of
-    /// the last decimal. There is none exactly at the end.
+    /// Skips the next segment without making its URL, counts it, and returns its times and its printed duration in units of
+    /// the last decimal. `None` exactly at the end.
     #[inline(always)]
     pub fn pass<L: Ledger>(&mut self, steps: &mut Steps<L>) -> Option<(Span, u64)>
         ensures segment { MatchOption result (spec.IsAtEnd self.old self.new)
@@ -193,21 +192,21 @@ impl<'a> PrintedSegments<'a> {
         Some((span, duration))
     }
 
-    /// What writes the addresses of the segments.
+    /// A writer of the segments' URLs.
     pub fn addresses(&self, alloc: Global) -> Result<AddressWriter<'a>, NoMemory>
         ensures { IfOk result (λ addresses. addresses.timeline ≡ self.now.timeline) }
     {
         self.listing.addresses(alloc)
     }
 
-    /// Whether each segment's name is that of a file in one folder, so that no address is refused.
+    /// Whether each segment's name is a valid file name in one folder, so that no URL is rejected.
     pub(crate) fn are_files(&self, alloc: Global) -> Result<bool, NoMemory>
         ensures { IfOk result (λ files. files ≡ true → AreInFolder self.now.timeline.names) }
     {
         self.listing.are_files(alloc)
     }
 
-    /// Goes behind the next segment, counts it, and tells its printed duration. Its address is made where it may be refused.
+    /// Moves past the next segment, counts it, and returns its printed duration. Its URL is made where it may be rejected.
     #[inline(always)]
     pub(crate) fn step<L: Ledger>(
         &mut self,
@@ -231,7 +230,7 @@ impl<'a> PrintedSegments<'a> {
     }
 }
 
-/// Where segments begin that are printed one by one.
+/// The start of printed segments.
 #[derive(Drop)]
 struct Begun {
     cursor: Cursor,
@@ -270,7 +269,7 @@ impl Begun {
     }
 }
 
-/// When the first of the segments begins that are listed from a place on.
+/// The start of the first segment that is listed from an index on.
 fn first_start(runs: &Runs, from: &Cursor, window: &Window) -> Tick
     requires window { IsWindowOf runs.now window.now }
     requires reached { IsReached runs.now window.now }
@@ -283,9 +282,10 @@ fn first_start(runs: &Runs, from: &Cursor, window: &Window) -> Tick
 }
 
 impl Presentation {
-    /// The listed segments of a track in a section with their printed durations. It takes no memory.
+    /// The listed segments of a track in a section with their printed durations. It allocates nothing.
     ///
-    /// Requires that both are in range, and that `count` doesn't answer that the section's segments are out of range.
+    /// Requires that both are in range, and that `count` doesn't fail because the section's segments are out of
+    /// range.
     pub fn segments(&self, section: usize, track: usize, digits: Digits) -> PrintedSegments<'_>
         requires section { section < length self.now.sections }
         requires track { track < length self.now.tracks }
@@ -296,12 +296,12 @@ impl Presentation {
         PrintedSegments::of(&self.content(section, track).runs, &window, None, digits)
     }
 
-    /// The segments of a track in a section that are listed at another instant and end after others that were printed
-    /// before. Their printed durations go on behind theirs, so that the sum of all never drifts. Where there were no
-    /// others it is all that are listed, as `segments` gives them. It takes no memory.
+    /// The segments of a track in a section that are listed at another time and end after others that were printed before. Their
+    /// printed durations continue theirs, so that the sum of all never drifts. Where there were no others it is all listed
+    /// segments, as in `segments`. It allocates nothing.
     ///
-    /// Requires that both are in range, that `check_ends` doesn't answer that the section's segments are out of range, that
-    /// the others don't end before they begin, and that there is no gap or overlap of more than half the first segment's duration.
+    /// Requires that both are in range, that `check_ends` doesn't fail because the section's segments are out of range, that the
+    /// others don't end before they begin, and that there is no gap or overlap of more than half the first segment's duration.
     pub fn segments_behind(
         &self,
         section: usize,
@@ -320,7 +320,7 @@ impl Presentation {
         PrintedSegments::of(&self.content(section, track).runs, &window, behind, digits)
     }
 
-    /// The same segments without their addresses: none of them is made or counted.
+    /// The same segments without their URLs: none of them is made or counted.
     pub fn times_behind(
         &self,
         section: usize,

@@ -2,22 +2,22 @@
 use bridge_io::{Kind, Ratio, Size, Text};
 use exact_time::Nanos;
 
-/// One Representation taken through all Periods (ISO/IEC 23009-1, 5.3.5), or one media playlist (RFC 8216, 4.3.4).
+/// One Representation through all Periods (ISO/IEC 23009-1, 5.3.5), or one media playlist (RFC 8216, 4.3.4).
 #[derive(Drop)]
 pub struct Track {
-    /// What it holds.
+    /// Its kind.
     pub kind: Kind,
-    /// Its AdaptationSet, or its rendition's name and language. Only that two tracks have the same one means something.
+    /// Its AdaptationSet, or its rendition's name and language. Only equality of these numbers has a meaning.
     pub set: usize,
     /// Its language, where it is known.
     pub language: Option<Text>,
-    /// Its codes, joined by `,` without spaces, where they are known (RFC 6381).
+    /// Its codecs, joined by `,` without spaces, where they are known (RFC 6381).
     pub codecs: Option<Text>,
-    /// Bits a second.
+    /// Bits per second.
     pub bandwidth: u64,
-    /// The size of its picture, where it is known.
+    /// Its width and height, where they are known.
     pub size: Option<Size>,
-    /// Its frames a second, where they are known.
+    /// Its frame rate, where it is known.
     pub frame_rate: Option<Ratio>,
 }
 
@@ -28,6 +28,6 @@ pub struct Section {
     pub id: Text,
     /// When it begins, from the presentation's start.
     pub start: Nanos,
-    /// How long it lasts. It is not known where the Period's end is open.
+    /// How long it lasts; `None` where the Period's end is open.
     pub length: Option<Nanos>,
 }

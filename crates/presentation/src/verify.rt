@@ -1,4 +1,4 @@
-// Whether each listed segment has an address.
+// Whether each listed segment has a URL.
 ghost use Rattle.std.specs.Prelude.{◌≡◌, ◌+◌, ◌^◌, ◌<◌, length, true, IfOk, OnOk};
 ghost use Rattle.bridge_io.specs.Answer.{Gives};
 ghost use Rattle.timeline.specs.FileNames.{AreInFolder};
@@ -14,8 +14,8 @@ use std::alloc::Global;
 use timeline::ListFault;
 
 impl Presentation {
-    /// Goes over each listed segment once, and tells the longest printed duration of each track. A fault of `count` comes
-    /// first; then the address that is refused of the first segment, track by track and section by section.
+    /// Visits each listed segment once, and returns the longest printed duration of each track. A fault of `count` comes
+    /// first; then that of the first segment whose URL is rejected, track by track and section by section.
     pub fn verify<L: Ledger>(
         &self,
         alloc: Global,
@@ -90,8 +90,8 @@ impl Presentation {
 }
 
 impl PrintedSegments<'_> {
-    /// Goes behind all segments, of which there are so many, and tells the longest printed duration. The address of each is
-    /// made where their names may be refused.
+    /// Moves past all `listed` segments, and returns the longest printed duration. The URL of each is made where their
+    /// names may be rejected.
     fn longest<L: Ledger>(
         &mut self,
         alloc: Global,
@@ -118,7 +118,7 @@ impl PrintedSegments<'_> {
     }
 }
 
-/// The fault of a segment that has no address, or of one for which memory is wanting.
+/// The fault of a segment that has no URL, or for which memory runs out.
 fn fault_at(fault: ListFault, section: usize, track: usize, segment: u64) -> PresentationFault
     ensures { result ≡ spec.fault_at section track segment fault }
 {

@@ -1,4 +1,4 @@
--- What the rules say in sentences over segments by their numbers.
+-- The rules as sentences over segments by their numbers.
 use Rattle.std.specs.Prelude.{◌≡◌, ℕ, ◌-◌, ◌*◌, ◌^◌, ◌<◌, ◌≤◌, ◌↔◌, nat_le, true, false, List, slice_get, if◌then◌else◌, Option, Some, None}
 use Rattle.std.specs.Prelude.{Ok, Err}
 use Rattle.hls_media.specs.{declared.media.Media.Media, declared.media.MediaSegment.MediaSegment}
@@ -14,7 +14,7 @@ pub record IsInBoth (old new : Media) (number : ℕ) (a b : MediaSegment) : Type
   pub in_old : segment_at number old ≡ Some a
   pub in_new : segment_at number new ≡ Some b
 
--- The new playlist may take the old one's place.
+-- The new playlist is a valid update of the old one.
 pub record IsLawful (old new : Media) : Type 0 where
   pub target : old.target ≡ new.target
   pub sequence : old.sequence ≤ new.sequence
@@ -28,6 +28,6 @@ pub record IsLawful (old new : Media) : Type 0 where
 abbrev pub RulesAreSentences : Type 0
 RulesAreSentences = (old new : Media) → (lawful old new ≡ Ok tt) ↔ IsLawful old new
 
--- each playlist may take its own place
+-- each playlist is a valid update of itself
 abbrev pub ReloadsItself : Type 0
 ReloadsItself = (media : Media) → lawful media media ≡ Ok tt

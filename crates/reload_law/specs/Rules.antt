@@ -1,4 +1,4 @@
--- When a media playlist may take the place of an older one: seven rules after RFC 8216 6.2.
+-- When a media playlist is a valid update of an older one: seven rules after RFC 8216 6.2.
 use Rattle.std.specs.Prelude.{ℕ, ◌+◌, ◌-◌, ◌*◌, ◌^◌, ◌==◌, ◌&&◌, ◌||◌, not, nat_lt, nat_eq, Bool, true, false, List, [], ◌∷◌, length, drop}
 use Rattle.std.specs.{Prelude.{sum_by, bytes_eq, if◌then◌else◌, Option, Some, None, option_map, Result, Ok, Err}, Option.option_eq}
 use Rattle.url_parts.specs.{declared.address.Part.Part, declared.range.Range.Range}
@@ -14,7 +14,7 @@ same_range a b = a.first == b.first && a.count == b.count
 abbrev pub same_part : Part → Part → Bool
 same_part a b = bytes_eq a.address b.address && option_eq same_range a.range b.range
 
--- address, range, duration and map are the same
+-- URL, byte range, duration and map are the same
 abbrev pub same_segment : MediaSegment → MediaSegment → Bool
 same_segment a b = bytes_eq a.address b.address && option_eq same_range a.range b.range && a.duration == b.duration
     && option_eq same_part a.map b.map
@@ -22,7 +22,7 @@ same_segment a b = bytes_eq a.address b.address && option_eq same_range a.range 
 abbrev pub same_section : MediaSegment → MediaSegment → Bool
 same_section a b = a.section == b.section
 
--- the number of the first two segments that differ, of lists whose first segments have a number
+-- the number of the first two segments that differ, in lists whose first segments have a given number
 abbrev pub first_other : (MediaSegment → MediaSegment → Bool) → ℕ → List MediaSegment → List MediaSegment → Option ℕ
 first_other same number [] news = None
 first_other same number (old ∷ olds) [] = None
@@ -35,7 +35,7 @@ or_else None later = later
 
 -- ---- playlists
 
--- the number behind the last segment's
+-- the number after the last segment's
 abbrev pub end_of : Media → ℕ
 end_of media = media.sequence + length media.segments
 
@@ -43,7 +43,7 @@ end_of media = media.sequence + length media.segments
 abbrev pub segments_from : ℕ → Media → List MediaSegment
 segments_from number media = drop (number - media.sequence) media.segments
 
--- the first number that is in both and at which they differ
+-- the first number in both at which they differ
 abbrev pub first_differing : (MediaSegment → MediaSegment → Bool) → Media → Media → Option ℕ
 first_differing same old new = first_other same new.sequence (segments_from new.sequence old) new.segments
 
@@ -84,7 +84,7 @@ abbrev pub length_rule : Media → Media → Option Unlawful
 length_rule old new = broken_if (not new.ended && nat_lt old.sequence new.sequence && nat_lt (nanos_of new)
     (3 * 10 ^ 9 * new.target)) ThreeTargets
 
--- the same of some segments with those that had their numbers before, the first of which has a number
+-- the same for two lists of segments, the first of which have a given number
 abbrev pub compared : List MediaSegment → List MediaSegment → ℕ → Result (Unit {0}) Unlawful
 compared olds news first = first_broken (option_map Segment (first_other same_segment first olds news)
     ∷ option_map Discontinuity (first_other same_section first olds news) ∷ [])
@@ -99,6 +99,6 @@ abbrev pub rules_of : Media → Media → List (Option Unlawful)
 rules_of old new = target_rule old new ∷ sequence_rule old new ∷ segment_rule old new ∷ discontinuity_rule old new ∷ end_rule old new
     ∷ ended_rule old new ∷ length_rule old new ∷ []
 
--- The new playlist may take the old one's place, or the first rule that is broken.
+-- The new playlist is a valid update of the old one, or the first rule that is broken.
 unfoldable pub lawful : Media → Media → Result (Unit {0}) Unlawful
 lawful old new = first_broken (rules_of old new)

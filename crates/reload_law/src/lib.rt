@@ -1,4 +1,4 @@
-//! Whether a media playlist may take the place of an older one: seven rules after RFC 8216, 6.2.
+//! Whether a media playlist is a valid update of an older one: seven rules after RFC 8216, 6.2.
 #![tactic(auto)]
 
 mod laws;

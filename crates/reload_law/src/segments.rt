@@ -7,8 +7,8 @@ use crate::Unlawful;
 use hls_media::MediaSegment;
 use url_parts::{Address, Part, Range};
 
-/// Looks for the first numbers at which segments differ from those that had their numbers before; the first two have
-/// the number `first`.
+/// Finds the first sequence numbers whose segments differ between the playlists; the first two segments have the
+/// number `first`.
 pub(crate) fn compare(
     mut olds: &[MediaSegment],
     mut news: &[MediaSegment],

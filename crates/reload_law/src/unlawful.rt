@@ -6,7 +6,7 @@ use crate::segments::compare;
 use hls_media::{Media, MediaSegment};
 use thiserror::Error;
 
-/// The first rule that a playlist breaks which takes the place of an older one.
+/// The first rule that an invalid playlist update breaks.
 #[derive(Clone, Copy, Debug, PartialEq, Eq, Error)]
 pub enum Unlawful {
     /// The target durations differ (RFC 8216 6.2.1).
@@ -15,7 +15,7 @@ pub enum Unlawful {
     /// The new playlist begins at a smaller sequence number (RFC 8216 6.2.2).
     #[error("a smaller sequence number")]
     Sequence,
-    /// A sequence number in both has another address, range, duration or map: the least one (RFC 8216 6.2.1).
+    /// A sequence number in both has another URL, byte range, duration or map: the least one (RFC 8216 6.2.1).
     #[error("another segment {number}")]
     Segment {
         /// Its sequence number.
@@ -30,18 +30,19 @@ pub enum Unlawful {
     /// The new playlist ends at a smaller sequence number (RFC 8216 6.2.1).
     #[error("segments at the end are missing")]
     Shrunk,
-    /// The old playlist is ended, and the new one isn't or ends at another number (RFC 8216 6.2.1).
+    /// The old playlist has EXT-X-ENDLIST, and the new one hasn't or ends at another number (RFC 8216 6.2.1).
     #[error("a change of an ended playlist")]
     AfterEnd,
-    /// The new playlist isn't ended and begins at a greater sequence number, and its durations sum to less than three target
-    /// durations (RFC 8216 6.2.2).
+    /// The new playlist has no EXT-X-ENDLIST and begins at a greater sequence number, and its durations sum to less than
+    /// three target durations (RFC 8216 6.2.2).
     #[error("less than three target durations")]
     ThreeTargets,
 }
 
-/// Whether a media playlist may take the place of an older one, or the first rule that it breaks. It takes no memory.
+/// Whether a media playlist is a valid update of an older one, or the first rule that it breaks. It allocates
+/// nothing.
 ///
-/// Requires that both sequence values are below 2^63, as `read_media` gives them.
+/// Requires that both sequence values are below 2^63, as `read_media` ensures.
 #[tactic(auto, unfolding(crate::specs::Rules::lawful))]
 pub fn lawful(old: &Media, new: &Media) -> Result<(), Unlawful>
     requires old { old.now.sequence < 2 ^ 63 }
@@ -77,7 +78,7 @@ fn kept_of(media: &Media, number: u64) -> &[MediaSegment]
     }
 }
 
-/// The number behind the last segment's.
+/// The number after the last segment's.
 fn end_of(media: &Media) -> u128
     ensures { result ≡ spec.end_of media.now }
 {
@@ -109,7 +110,7 @@ fn judge_length(old: &Media, new: &Media) -> Result<(), Unlawful>
     }
 }
 
-/// How long some segments last, in nanoseconds.
+/// The total duration of some segments, in nanoseconds.
 fn nanos_of(segments: &[MediaSegment]) -> u128
     ensures { result ≡ sum_by (λ segment. segment.duration) segments.now }
 {

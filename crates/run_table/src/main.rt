@@ -1,21 +1,21 @@
-//! Runs of the top call over a table: standard input has the rows, and standard output what each run tells and leaves.
+//! Runs of the top call over a table of test cases: standard input has the rows, and standard output what each run reports and
+//! writes.
 //!
 //! A line of the table is a word and what follows it:
 //!
-//! - `row READ WRITE REPORT INPUT LABEL` begins a row, and is printed. Of the store's reading calls, of its writing calls, of
-//!   the report's calls and of the input's the one of that number fails, and none where no number stands.
+//! - `row READ WRITE REPORT INPUT LABEL` begins a row, and is printed. Of the store's reading calls, of its writing calls, of the
+//!   report's calls and of the input's the one of that number fails, and none where there is no number.
 //! - `word WORD` adds a word of the command.
 //! - `text TEXT` adds a text to the next file, `line TEXT` a text and a line feed, `hex HEX` the bytes of these digits, and
 //!   `times NUMBER TEXT` a text that many times.
-//! - `clock NUMBER FIRST STEP TEXT` adds a text that many times in which each `@` stands for a time of day: the first one so many
-//!   seconds past midnight, each other one so many later than the one before.
-//! - `file NAME` puts the next file into the store, and `input TEXT` adds it, and then the text, to what stands on standard
-//!   input.
+//! - `clock NUMBER FIRST STEP TEXT` adds a text that many times; each `@` in it stands for a time of day: the first one FIRST
+//!   seconds past midnight, each other one STEP seconds later than the one before.
+//! - `file NAME` puts the next file into the store, and `input TEXT` adds it, and then the text, to the run's standard input.
 //! - `run` runs the command, and prints its status and its report.
 //! - `show NAME` prints a file as it then is, and `sum NAME` its length and the FNV-1a sum of its bytes.
 //! - An empty line prints one.
 //!
-//! With words it runs the command that they are over the current folder, and prints the files that were written.
+//! With arguments it runs that command over the current directory, and prints the files that were written.
 //!
 //! In a text `\n`, `\r`, `\t`, `\0` and `\\` stand for a line feed, a carriage return, a tab, a byte 0 and a `\`.
 #![tactic(auto)]
@@ -37,7 +37,7 @@ fn main(rt: HostRuntime) -> ExitCode {
     ExitCode::from(status.number())
 }
 
-/// Runs the command that the words are, or where there are none the rows of the table.
+/// Runs the command of the arguments, or where there are none, the rows of the table.
 fn start<L: Ledger>(rt: HostRuntime, blank: Blank) -> Result<Status, NoMemory>
     requires name { blank.name ≡ L.name }
     requires parts { blank.parts ≡ L.parts }
@@ -70,7 +70,7 @@ fn start<L: Ledger>(rt: HostRuntime, blank: Blank) -> Result<Status, NoMemory>
     Ok(status)
 }
 
-/// Prints a file under its name, and nothing where there is none.
+/// Prints a file with its name, and nothing where there is none.
 fn print<F: Store, P: Sink>(
     alloc: Global,
     store: &mut F,
@@ -101,7 +101,7 @@ fn words(rt: &HostRuntime) -> Result<Sequence<Text>, NoMemory> {
     Ok(words)
 }
 
-/// Runs the rows of the table that standard input has.
+/// Runs the rows of the table on standard input.
 fn tabled(rt: &HostRuntime) -> Result<Status, NoMemory> {
     let alloc = rt.alloc();
     let Ok(table) = io::read_to_string(alloc, rt.reader()) else {
@@ -114,7 +114,7 @@ fn tabled(rt: &HostRuntime) -> Result<Status, NoMemory> {
     }
 }
 
-/// A row as far as it was read, and what is printed.
+/// A row as far as it was read, and the output.
 #[derive(Drop)]
 struct Row {
     words: Sequence<Text>,
@@ -208,7 +208,7 @@ fn print_line(printed: &mut Bytes, line: &str) -> Result<(), NoMemory> {
     printed.push(b'\n')
 }
 
-/// Adds the text that is written so.
+/// Adds a text, with its escapes resolved.
 fn add(alloc: Global, bytes: &mut Bytes, written: &str) -> Result<(), NoMemory> {
     let text = unescaped(alloc, written)?;
     bytes.extend(text.as_str().as_bytes())
@@ -249,7 +249,7 @@ fn add_times(alloc: Global, bytes: &mut Bytes, rest: &str) -> Result<(), NoMemor
     Ok(())
 }
 
-/// The number that a text begins with, and what stands behind the blank after it.
+/// The number that a text begins with, and what follows the blank after it.
 fn number_then(text: &str) -> (u64, &str) {
     let (digits, rest) = text.split_once(' ').unwrap_or((text, ""));
     (number_of(digits).unwrap_or(0), rest)
@@ -298,7 +298,7 @@ fn add_hex(bytes: &mut Bytes, digits: &str) -> Result<(), NoMemory> {
     Ok(())
 }
 
-/// Adds the next file, and then a text, to what stands on standard input.
+/// Adds the next file, and then a text, to the run's standard input.
 fn input(alloc: Global, row: &mut Row, written: &str) -> Result<(), NoMemory> {
     let bytes = mem::replace(&mut row.next, Bytes::new(alloc));
     row.input.extend(bytes.as_slice())?;

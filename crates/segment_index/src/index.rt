@@ -1,4 +1,4 @@
-// The segment index of a file.
+// The `sidx` of a file.
 ghost use Rattle.std.specs.Prelude.{◌≡◌, ◌<◌, ◌≤◌, ◌+◌, ◌*◌, ◌^◌, false, length};
 ghost use Rattle.box_reader.specs.Boxes.{Found};
 ghost use Rattle.segment_index.specs.Index as spec;
@@ -9,7 +9,8 @@ use std::marker::Model;
 
 /// The index of a file: a `sidx` of version 0 or 1, whose fields are all there.
 ///
-/// In a contract it is its place, its timescale, the first byte that its references cover, and these.
+/// In a contract it is its byte offset, its timescale, the offset of the first byte that its references cover, and
+/// these.
 #[derive(Drop)]
 pub struct SegmentIndex<'a> {
     found: FileBox<'a>,
@@ -27,21 +28,21 @@ impl<'a> Model for SegmentIndex<'a> {
 }
 
 impl<'a> SegmentIndex<'a> {
-    /// Where the box's first byte stands in the file.
+    /// The byte offset of the box in the file.
     pub fn at(&self) -> u64
         ensures { result ≡ self.now.at }
     {
         self.found.head().at
     }
 
-    /// How many of its ticks make a second.
+    /// Its timescale: ticks per second.
     pub fn timescale(&self) -> u32
         ensures { result ≡ self.now.timescale }
     {
         u32_at(self.found.body(), 8)
     }
 
-    /// The first byte of the file that its references cover.
+    /// The offset of the first byte that its references cover.
     pub fn first(&self) -> u128
         ensures first { result ≡ self.now.first }
         ensures bounded { result < 2 ^ 65 }
@@ -65,7 +66,7 @@ impl<'a> SegmentIndex<'a> {
     }
 }
 
-/// Passes a `sidx` of version 0 or 1, and one without a byte behind its header.
+/// Passes a `sidx` of version 0 or 1, and one without a byte after its header.
 #[derive(Clone, Copy)]
 struct IsIndex;
 
@@ -77,9 +78,9 @@ impl BoxTest for IsIndex {
     }
 }
 
-/// The first index among the boxes of some bytes, the first of which stands at a place of the file. A fault is told only
-/// where no index stands before it: Cut where the bytes end inside a box, and Size where a box is shorter than its header,
-/// or the index than its fields. There is none otherwise. It takes no memory.
+/// The first `sidx` among the boxes of some bytes, the first of which is at offset `first` of the file; `None` where there
+/// is none. A fault is returned only where no `sidx` is before it: `Cut` where the bytes end inside a box, and `Size`
+/// where a box is shorter than its header, or the `sidx` than its fields. It allocates nothing.
 ///
 /// Requires that the bytes lie in the first 2^63 of a file.
 #[tactic(auto, unfolding(crate::specs::Index::index_of))]
@@ -109,7 +110,7 @@ fn version_of(body: &[u8]) -> u8
     }
 }
 
-/// How many bytes stand before the references.
+/// How many bytes are before the references.
 fn fixed_of(body: &[u8]) -> usize
     ensures { result ≡ spec.fixed_of body.now }
 {

@@ -5,12 +5,12 @@ ghost use Rattle.segment_index.specs.Index as spec;
 use box_reader::u32_at;
 use std::marker::Model;
 
-/// A reference: a subsegment, or a further index (ISO/IEC 14496-12, 8.16.3.3).
+/// A reference: to a subsegment, or to another `sidx` (ISO/IEC 14496-12, 8.16.3.3).
 #[derive(Clone, Copy, PartialEq, Eq)]
 pub struct Reference {
-    /// Where it stands in the file.
+    /// Its byte offset in the file.
     pub at: u64,
-    /// Whether it is to a further index, and not to media.
+    /// Whether it is to another `sidx`, and not to media.
     pub is_index: bool,
     /// How many bytes it covers.
     pub size: u32,
@@ -39,7 +39,7 @@ impl<'a> Model for References<'a> {
 }
 
 impl<'a> References<'a> {
-    /// So many references, the first of which the bytes begin with.
+    /// `count` references, the first of which the bytes begin with.
     pub(crate) fn of(rest: &'a [u8], at: u64, count: u16) -> References<'a>
         requires there { spec.reference_len * count ≤ length rest.now }
         requires placed { at + length rest.now ≤ 2 ^ 63 }

@@ -7,7 +7,7 @@ use Rattle.template_ids.specs.{declared.ids.Ids.Ids, Templates.named}
 abbrev pub with_greatest : Ids → Ids
 with_greatest ids = record ids { number = 2 ^ 64 - 1; time = 2 ^ 64 - 1 }
 
--- whether the greatest number and time give the name of a file
+-- whether the greatest number and time give a valid file name
 abbrev pub names_files : List ℕ → Ids → Bool
 names_files text ids = is_name (named text (with_greatest ids))
 

@@ -1,4 +1,4 @@
--- Names with a Representation's id and bandwidth in them.
+-- Names with a Representation's id and bandwidth filled in.
 use Rattle.std.specs.Prelude.{◌≡◌, ℕ, ◌<◌, ◌^◌, ◌==◌, ◌&&◌, ◌||◌, not, nat_lt, Bool, true, false, List, ◌++◌, length, slice_index, flat_map}
 use Rattle.std.specs.{Prelude.{slice_get, string_bytes, decimal, Option, Some, None}, List.list_all}
 use Rattle.template_ids.specs.{declared.filled.Filled.Filled, declared.slot.Slot.Slot, declared.slot.Counter.Counter}
@@ -12,11 +12,11 @@ abbrev pub counted : Counter → (number time : ℕ) → ℕ
 counted Number number time = number
 counted Time number time = time
 
--- a number, with what stands before it
+-- a number, with the text before it
 abbrev pub slot_text : (number time : ℕ) → Slot → List ℕ
 slot_text number time slot = slot.before ++ padded slot.width (decimal (counted slot.counter number time))
 
--- what stands behind the front that all names have
+-- what follows the common prefix of all names
 abbrev pub rest_of : Filled → (number time : ℕ) → List ℕ
 rest_of filled number time = flat_map (slot_text number time) filled.slots.items ++ string_bytes filled.last
 
@@ -37,7 +37,7 @@ pub record IsPath (text : List ℕ) : Type 0 where
   pub some : 0 < length text
   pub first : (slice_index text 0 == 47) ≡ false
 
--- a first number has a text before it that doesn't begin with a slash
+-- there is a first number with a text before it that doesn't begin with a slash
 abbrev pub opens_in_path : Option Slot → Bool
 opens_in_path None = false
 opens_in_path (Some slot) = not (slice_index slot.before 0 == 47)
@@ -46,7 +46,7 @@ abbrev pub goes_on_in_path : Filled → Bool
 goes_on_in_path filled = opens_in_path (slice_get filled.slots.items 0)
     && list_all (λ slot. list_all is_path_byte slot.before) filled.slots.items && list_all is_path_byte (string_bytes filled.last)
 
--- where it says so, what stands behind the front is a path for each number and each time
+-- where it says so, what follows the common prefix is a path for each number and each time
 abbrev pub NamesGoOn : Type 0
 NamesGoOn = (filled : Filled) (number time : ℕ) → goes_on_in_path filled ≡ true → number < 2 ^ 64 → time < 2 ^ 64
     → IsPath (rest_of filled number time)

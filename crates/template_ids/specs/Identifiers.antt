@@ -16,7 +16,7 @@ quantity_of name = if bytes_eq name (codes "Number") then Some Number
     else (if bytes_eq name (codes "Time") then Some Time
     else (if bytes_eq name (codes "Bandwidth") then Some Bandwidth else None))
 
--- the `w` of a format `%0wd`, of which this is what follows the `%`
+-- the `w` of a format `%0wd`, given what follows the `%`
 abbrev pub width_digits : List ℕ → List ℕ
 width_digits format = take (length format - 2) (drop 1 format)
 
@@ -25,7 +25,7 @@ abbrev pub is_width : List ℕ → Bool
 is_width digits = all_ascii_digits digits && nat_le 1 (length digits) && nat_le (length digits) 3
     && nat_le 1 (digits_value 10 digits) && nat_le (digits_value 10 digits) 20
 
--- the least width that a format tells, of which this is what follows the `%`
+-- the width of a format, given what follows the `%`
 abbrev pub width_of : List ℕ → Option ℕ
 width_of format = let digits = width_digits format in
     if bytes_eq format (codes "0" ++ (digits ++ codes "d")) && is_width digits then Some (digits_value 10 digits) else None
@@ -43,17 +43,17 @@ plain_identifier name = if bytes_eq name [] then Ok Dollar
     else (if bytes_eq name (codes "SubNumber") then Err SubNumber
     else padded_identifier (quantity_of name) (Some 1)))
 
--- an identifier with a `%`, which parts its name from its format
+-- an identifier with a `%`, which separates its name from its format
 abbrev pub formatted_identifier : List ℕ → List ℕ → Result Identifier TemplateFault
 formatted_identifier name format = if bytes_eq name (codes "RepresentationID") then Err Width
     else padded_identifier (quantity_of name) (width_of format)
 
--- the same of a text whose first `%` stands at a place
+-- the same, given the index of the first `%`
 abbrev pub identifier_at : List ℕ → Option ℕ → Result Identifier TemplateFault
 identifier_at text None = plain_identifier text
 identifier_at text (Some percent) = formatted_identifier (take percent text) (drop (percent + 1) text)
 
--- what stands between two `$`, read as an identifier
+-- what is between two `$`, read as an identifier
 abbrev pub identifier_of : List ℕ → Result Identifier TemplateFault
 identifier_of text = identifier_at text (position is_percent text)
 

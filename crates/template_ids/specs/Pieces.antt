@@ -1,4 +1,4 @@
--- The pieces that a template's text is cut into once.
+-- The pieces that a template's text is cut into.
 use Rattle.std.specs.Prelude.{◌≡◌, ℕ, ◌≤◌, Bool, false, List, slice_range, flat_map, All, IsCharBoundary, IfSome, Option, Some, Ok}
 use Rattle.std.specs.List.{list_any}
 use Rattle.template_ids.specs.{declared.identifier.Quantity.Quantity, declared.piece.Piece.Piece, declared.piece.Piece.TheVariants.Literal}
@@ -27,11 +27,11 @@ pub record AreOf (text : List ℕ) (pieces : List Piece) : Type 0 where
   pub names : (ids : Ids) → flat_map (piece_text text ids) pieces ≡ named text ids
   pub counts : (q : Quantity) → list_any (is_quantity q) pieces ≡ uses q text
 
--- the pieces of a text without an identifier at fault
+-- the pieces of a text without an invalid identifier
 abbrev pub PiecesOf : List ℕ → List Piece → Type 0
 PiecesOf text pieces = AreOf text pieces × ((later : Option TemplateFault) → identifier_fault (identifiers_of text) later ≡ later)
 
--- the fault of the first identifier at fault, whatever fault is tried later, or want of memory
+-- the fault of the first invalid identifier, whatever fault is tried later, or out of memory
 abbrev pub IsFirstFault : List ℕ → TemplateFault → Type 0
 IsFirstFault text fault = IfSome (refusal fault) (λ f. (later : Option TemplateFault)
     → identifier_fault (identifiers_of text) later ≡ Some f)

@@ -11,11 +11,12 @@ use Rattle.template_ids.specs.Identifiers.{identifier_of}
 abbrev pub is_dollar : ℕ → Bool
 is_dollar b = b == 36
 
--- the parts round the `$`: those at even places, counted from 0, stand for themselves, those at odd places are identifiers
+-- the parts between the `$`: those with even indices, counted from 0, stand for themselves, those with odd indices are
+-- identifiers
 abbrev pub parts_of : List ℕ → List (List ℕ)
 parts_of text = slice_split is_dollar text
 
--- the parts at odd places
+-- the parts with odd indices
 abbrev pub odd_parts : List (List ℕ) → List (List ℕ)
 odd_parts [] = []
 odd_parts (literal ∷ []) = []
@@ -29,7 +30,7 @@ abbrev pub earlier_fault : Result Identifier TemplateFault → Option TemplateFa
 earlier_fault (Ok identifier) later = later
 earlier_fault (Err fault) later = Some fault
 
--- the fault of the first identifier at fault, or else a later fault
+-- the fault of the first invalid identifier, or else a later fault
 abbrev pub identifier_fault : List (List ℕ) → Option TemplateFault → Option TemplateFault
 identifier_fault [] later = later
 identifier_fault (identifier ∷ identifiers) later = earlier_fault (identifier_of identifier) (identifier_fault identifiers later)
@@ -55,7 +56,7 @@ uses_number text = uses Number text
 abbrev pub uses_time : List ℕ → Bool
 uses_time text = uses Time text
 
--- why the text is no template: a `$` without its other one, then the first identifier at fault, then `Number` with `Time`
+-- why the text isn't a template: an unpaired `$`, then the first invalid identifier, then `Number` with `Time`
 abbrev pub template_fault : List ℕ → Option TemplateFault
 template_fault text = if count_by is_dollar text % 2 == 1 then Some LoneDollar
     else identifier_fault (identifiers_of text) (if uses_number text && uses_time text then Some Both else None)
@@ -64,11 +65,11 @@ abbrev pub unless_fault : List ℕ → Option TemplateFault → Result (List ℕ
 unless_fault text None = Ok text
 unless_fault text (Some fault) = Err fault
 
--- the template that a text is
+-- a text read as a template
 abbrev pub template_of : List ℕ → Result (List ℕ) TemplateFault
 template_of text = unless_fault text (template_fault text)
 
--- want of memory tells nothing of the text
+-- out of memory says nothing about the text
 abbrev pub refusal : TemplateFault → Option TemplateFault
 refusal Memory = None
 refusal fault = Some fault
@@ -81,11 +82,11 @@ quantity ids Number = ids.number
 quantity ids Time = ids.time
 quantity ids Bandwidth = ids.bandwidth
 
--- padded with zeros to the least width, and never cut
+-- padded with zeros to a width, and never truncated
 abbrev pub padded : ℕ → List ℕ → List ℕ
 padded width digits = replicate (width - length digits) 48 ++ digits
 
--- what an identifier is replaced by
+-- what replaces an identifier
 abbrev pub value_of : Ids → Identifier → List ℕ
 value_of ids Dollar = codes "$"
 value_of ids RepresentationId = ids.id

@@ -1,17 +1,17 @@
-// Why a text is no template.
+// Why a text isn't a template.
 use bridge_io::NoMemory;
 use thiserror::Error;
 
-/// Why a text gives no template. `LoneDollar` is tried first, then the first identifier at fault, then `Both`.
+/// Why a text isn't a template. `LoneDollar` is tried first, then the first identifier at fault, then `Both`.
 #[derive(Clone, Copy, Debug, PartialEq, Eq, Error)]
 pub enum TemplateFault {
     /// The text has an odd number of `$`.
     #[error("a `$` without its other one")]
     LoneDollar,
-    /// An identifier isn't empty and isn't one of those that a template may hold.
+    /// An identifier is neither empty nor one of those that a template may have.
     #[error("an unknown identifier")]
     Unknown,
-    /// What follows an identifier's name isn't a format that it may have.
+    /// What follows an identifier's name isn't a format that is allowed there.
     #[error("a bad format of an identifier")]
     Width,
     /// The text has `$Number$` and `$Time$`.
@@ -20,7 +20,7 @@ pub enum TemplateFault {
     /// The text has `$SubNumber$`.
     #[error("`$SubNumber$`")]
     SubNumber,
-    /// Memory is wanting.
+    /// Out of memory.
     #[error("out of memory")]
     Memory,
 }

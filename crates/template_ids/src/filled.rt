@@ -1,4 +1,4 @@
-// Names with a Representation's id and bandwidth in them.
+// Names with a Representation's id and bandwidth filled in.
 ghost use Rattle.std.specs.Prelude.{◌≡◌, ℕ, [], ◌++◌, ◌≤◌, IfOk, OnOk, decimal, string_bytes};
 ghost use Rattle.template_ids.specs.Pieces.{IsPieceOf, piece_text};
 ghost use Rattle.template_ids.specs.Templates.{padded};
@@ -13,14 +13,14 @@ use bridge_io::{NoMemory, Text};
 use std::alloc::Global;
 use std::mem;
 
-/// The names that a template gives to the segments of one Representation: the id and the bandwidth stand in them already,
-/// and what stands between two numbers is one text.
+/// The segment names of one Representation by a template: the id and the bandwidth are filled in already, and what is
+/// between two numbers is one text.
 #[derive(Drop)]
 pub struct Filled {
-    /// What all names begin with: where they have a number, it goes up to and with the last `/` before the first one.
+    /// The common prefix of all names: where they have a number, it ends with the last `/` before the first one.
     front: String,
     slots: Vec<Slot>,
-    /// What stands behind the last number.
+    /// The text after the last number.
     last: String,
 }
 
@@ -38,14 +38,14 @@ impl Filled {
         }
     }
 
-    /// What all names begin with.
+    /// The common prefix of all names.
     pub fn front(&self) -> &str
         ensures { result.now ≡ string_bytes self.now.front }
     {
         self.front.as_str()
     }
 
-    /// Adds a segment's name at the end of a text.
+    /// Appends a segment's name to a text.
     pub fn push_name(&self, text: &mut String, number: u64, time: u64) -> Result<(), NoMemory>
         ensures { OnOk result (string_bytes text.new ≡ string_bytes text.old ++ name_of self.now number time) }
     {
@@ -53,7 +53,7 @@ impl Filled {
         self.push_rest(text, number, time)
     }
 
-    /// Adds what stands behind the front in a segment's name.
+    /// Appends what follows the common prefix in a segment's name.
     pub fn push_rest(&self, text: &mut String, number: u64, time: u64) -> Result<(), NoMemory>
         ensures { OnOk result (string_bytes text.new ≡ string_bytes text.old ++ rest_of self.now number time) }
     {
@@ -64,7 +64,7 @@ impl Filled {
         Ok(())
     }
 
-    /// How many bytes a name takes at most. It is a guess for the memory to ask for, and no contract rests on it.
+    /// A guess of how many bytes a name takes at most, for the allocation; no contract relies on it.
     pub fn room(&self) -> usize {
         self.slots.iter().fold(
             self.front.len().saturating_add(self.last.len()),
@@ -74,7 +74,7 @@ impl Filled {
         )
     }
 
-    /// Whether what stands behind the front is a path of a relative reference for each number and each time
+    /// Whether what follows the common prefix is a path of a relative reference for each number and each time
     /// (`laws::names_go_on`).
     pub fn goes_on_in_path(&self) -> bool
         ensures { result ≡ goes_on_in_path self.now }
@@ -84,7 +84,7 @@ impl Filled {
             && are_path_bytes(self.last.as_str())
     }
 
-    /// Adds what a piece of a template's text stands for.
+    /// Appends what a piece of a template's text stands for.
     pub(crate) fn push(
         &mut self,
         alloc: Global,
@@ -154,7 +154,7 @@ impl Slot {
     }
 }
 
-/// Moves a text's front up to and with its last `/` behind another text, and gives the rest.
+/// Moves a text's prefix, up to and with its last `/`, to the end of another text, and returns the rest.
 fn take_folder(alloc: Global, text: String, front: &mut String) -> Result<Text, NoMemory>
     ensures { IfOk result (λ rest. string_bytes front.new ++ rest ≡ string_bytes front.old ++ string_bytes text) }
 {
@@ -168,7 +168,7 @@ fn take_folder(alloc: Global, text: String, front: &mut String) -> Result<Text, 
     Text::copy_of(alloc, rest)
 }
 
-/// Whether what stands before the numbers has the bytes of a path.
+/// Whether the text before each number has only path bytes.
 fn stand_in_path(slots: &[Slot]) -> bool
     ensures { result ≡ list_all (λ slot. list_all is_path_byte slot.before) slots.now }
 {
@@ -177,7 +177,7 @@ fn stand_in_path(slots: &[Slot]) -> bool
         .all(|slot| are_path_bytes(slot.before.as_str()))
 }
 
-/// Whether a first number has a text before it that doesn't begin with a slash.
+/// Whether there is a first number with a text before it that doesn't begin with a slash.
 fn opens_in_path(slot: Option<&Slot>) -> bool
     ensures { result ≡ opens_in_path (option_copied slot.entry) }
 {

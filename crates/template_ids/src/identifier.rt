@@ -1,4 +1,4 @@
-// What stands between two `$` of a template.
+// What is between two `$` of a template.
 ghost use Rattle.std.specs.Prelude.{◌≡◌, ◌≤◌, if◌then◌else◌, IfOk, IfSome};
 ghost use Rattle.std.specs.Str.Parse.{digits_value};
 ghost use Rattle.template_ids.specs.Identifiers.{identifier_of, plain_identifier, formatted_identifier, quantity_of, width_of, is_width};
@@ -75,7 +75,7 @@ fn quantity_of(name: &str) -> Option<Quantity>
     }
 }
 
-/// The width that a format `%0wd` tells, of which this is what follows the `%`.
+/// The width of a format `%0wd`, given what follows the `%`.
 fn width_of(format: &[u8]) -> Option<u8>
     ensures value { result ≡ width_of format.now }
     ensures bound { IfSome result (λ width. width ≤ 20) }

@@ -20,7 +20,7 @@ pub struct Ids {
 impl Ids {
     ghost use Rattle.template_ids.specs.Templates.{ids_of};
 
-    /// The same, with the id where it stands.
+    /// The same, with the id borrowed.
     pub fn borrowed(&self) -> BorrowedIds<'_>
         ensures { ids_of result ≡ self.now }
     {
@@ -33,7 +33,7 @@ impl Ids {
     }
 }
 
-/// What the identifiers of a template stand for, without a copy of the id: many segments have the same one.
+/// What the identifiers of a template stand for, with the id borrowed: many segments share it.
 #[derive(Clone, Copy)]
 pub struct BorrowedIds<'a> {
     /// The id of the Representation.

@@ -1,4 +1,4 @@
-//! Segment templates of an MPD, and the names that they give: ISO/IEC 23009-1, 5.3.9.4.4.
+//! Segment templates of an MPD, and the names that they generate: ISO/IEC 23009-1, 5.3.9.4.4.
 #![tactic(auto)]
 
 mod fault;

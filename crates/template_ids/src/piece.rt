@@ -16,7 +16,7 @@ const ZEROS: &str = "00000000000000000000";
 /// A piece of a template.
 #[derive(Clone, Copy)]
 pub enum Piece {
-    /// The bytes of the template's text from one place up to another.
+    /// The bytes `start..end` of the template's text.
     Literal { start: usize, end: usize },
     /// What an identifier stands for.
     Value(Identifier),
@@ -68,7 +68,7 @@ impl Piece {
         }
     }
 
-    /// How many bytes the piece takes in a name at most.
+    /// A guess of how many bytes the piece takes in a name at most.
     pub fn room(self, ids: &BorrowedIds<'_>) -> usize {
         match self {
             Piece::Literal { start, end } => end.saturating_sub(start),
@@ -78,7 +78,7 @@ impl Piece {
         }
     }
 
-    /// Adds what the piece of a template's text stands for.
+    /// Appends what the piece of a template's text stands for.
     pub fn push_to(
         self,
         name: &mut String,
@@ -101,7 +101,7 @@ impl Piece {
     }
 }
 
-/// Adds a number, padded with zeros to a width.
+/// Appends a number, padded with zeros to a width.
 pub fn push_padded(name: &mut String, number: u64, width: u8) -> Result<(), AllocError>
     requires { width ≤ 20 }
     ensures { OnOk result (string_bytes name.new ≡ string_bytes name.old ++ padded width (decimal number)) }

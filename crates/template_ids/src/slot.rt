@@ -1,4 +1,4 @@
-// Where a segment's numbers stand in its name.
+// Where a segment's numbers are in its name.
 ghost use Rattle.std.specs.Prelude.{◌≤◌};
 
 use bridge_io::Text;
@@ -6,7 +6,7 @@ use bridge_io::Text;
 /// A number of a segment in a name.
 #[derive(Drop)]
 pub struct Slot {
-    /// What stands between it and the number before it.
+    /// The text between it and the number before it.
     pub before: Text,
     pub counter: Counter,
     /// How many digits it is padded to.

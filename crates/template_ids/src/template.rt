@@ -12,7 +12,7 @@ use std::rc::Rc;
 
 /// A segment template of an MPD (ISO/IEC 23009-1, 5.3.9.4.4).
 ///
-/// The text is cut at each `$`, and the parts at odd places, counted from 0, are identifiers: an empty one stands
+/// The text is cut at each `$`, and the parts with odd indices, counted from 0, are identifiers: an empty one stands
 /// for a `$`, `RepresentationID` for the Representation's id, and `Number`, `Time` and `Bandwidth` for a number. Each
 /// of these three may carry a format `%0wd`, with w of 1 to 3 digits and a value of 1 to 20, which pads the number
 /// with zeros to w digits.
@@ -48,7 +48,7 @@ impl Template {
 
     /// Reads a text as a template.
     ///
-    /// The text is refused where the number of `$` is odd, otherwise by its first identifier at fault, otherwise
+    /// The text is rejected where the number of `$` is odd, otherwise for its first invalid identifier, otherwise
     /// where it has both `Number` and `Time`.
     pub fn read(alloc: Global, text: &str) -> Result<Template, TemplateFault>
         ensures { Gives (λ template. template) refusal result (template_of text.now) }
@@ -74,7 +74,7 @@ impl Template {
         Ok(Template { parts })
     }
 
-    /// The same template once more, without a copy of it.
+    /// The same template again. It shares the text.
     pub fn share(&self) -> Result<Template, NoMemory>
         ensures { IfOk result (λ template. template ≡ self.now) }
     {
@@ -106,7 +106,7 @@ impl Template {
         Ok(Text::from(name))
     }
 
-    /// Adds the same at the end of a text (ISO/IEC 23009-1, 5.3.9.4.4). NoMemory comes where the text can't grow.
+    /// Appends the same to a text (ISO/IEC 23009-1, 5.3.9.4.4). `NoMemory` comes where the text can't grow.
     pub fn push_name(&self, text: &mut String, ids: &BorrowedIds<'_>) -> Result<(), NoMemory>
         ensures { OnOk result (string_bytes text.new ≡ string_bytes text.old ++ named self.now (ids_of ids.now)) }
     {
@@ -129,7 +129,7 @@ impl Template {
         Ok(filled)
     }
 
-    /// How many bytes the name takes at most. It is a guess for the memory to ask for, and no contract rests on it.
+    /// A guess of how many bytes the name takes at most, for the allocation; no contract relies on it.
     pub fn room(&self, ids: &BorrowedIds<'_>) -> usize {
         self.parts
             .pieces
@@ -137,7 +137,7 @@ impl Template {
             .fold(0usize, |room, piece| room.saturating_add(piece.room(ids)))
     }
 
-    /// Whether the greatest number and time give the name of a file ([`bridge_io::is_name`]); then each number and each
+    /// Whether the greatest number and time give a valid file name ([`bridge_io::is_name`]); then each number and each
     /// time do (`laws::files_are_named`).
     pub fn names_files(&self, alloc: Global, id: &str, bandwidth: u64) -> Result<bool, NoMemory>
         ensures { IfOk result (λ names. names ≡ names_files self.now

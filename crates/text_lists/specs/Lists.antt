@@ -1,4 +1,4 @@
--- Lists of texts, and what stands in some of them, each text once.
+-- Lists of texts, and the union of some of them.
 use Rattle.std.specs.{Prelude.{ℕ, ◌==◌, List, [], ◌∷◌, ◌++◌, map, slice_get, if◌then◌else◌, Option, unwrap_or}, List.slice_split}
 use Rattle.std.specs.{Option.option_map_or, Borrow.Bor}
 use Rattle.bridge_io.specs.Texts.{is_among}
@@ -6,7 +6,7 @@ use Rattle.bridge_io.specs.Texts.{is_among}
 abbrev pub texts_of : List (Bor (List ℕ)) → List (List ℕ)
 texts_of texts = map (λ text. text.now) texts
 
--- a text behind those that were found before, if it isn't among them
+-- a text added after those that were found before, if it isn't among them
 abbrev pub with_text : List (List ℕ) → List ℕ → List (List ℕ)
 with_text found text = if is_among text found then found else found ++ text ∷ []
 
@@ -22,11 +22,11 @@ parts_of text = slice_split (λ b. b == 44) text
 abbrev pub parts_in : Option (List ℕ) → List (List ℕ)
 parts_in text = option_map_or parts_of text []
 
--- the list at a place, and an empty one where there is none
+-- the list at an index, and an empty one where there is none
 abbrev pub list_at : List (List (List ℕ)) → ℕ → List (List ℕ)
 list_at lists place = unwrap_or (slice_get lists place) []
 
--- the texts of the lists at some places, each once, behind those that were found before
+-- the texts of the lists at some indices, each once, after those that were found before
 abbrev pub merged_from : List (List (List ℕ)) → List (List ℕ) → (places : List ℕ) → List (List ℕ)
 merged_from lists found [] = found
 merged_from lists found (place ∷ later) = merged_from lists (with_texts found (list_at lists place)) later

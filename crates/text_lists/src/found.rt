@@ -1,4 +1,4 @@
-// Texts as they are found, each once.
+// Sets of texts in the order in which they were found.
 ghost use Rattle.std.specs.Prelude.{◌≡◌, ◌<◌, [], All, length, map, OnOk, IfOk};
 ghost use Rattle.text_lists.specs.Lists.{texts_of, with_text, with_texts, merged_from};
 ghost use Rattle.text_lists.specs.Numbers.{IsMarked, IsOnce, AreBelow, numbers_at, text_by, texts_by};
@@ -15,7 +15,7 @@ pub(crate) struct Found<'a> {
 }
 
 impl<'a> Found<'a> {
-    /// None of the texts that have numbers.
+    /// The empty set of numbered texts.
     pub(crate) fn none_of(alloc: Global, texts: &[&'a str]) -> Result<Found<'a>, NoMemory>
         ensures none { IfOk result (λ found. found.texts.items ≡ []) }
         ensures marked { IfOk result (λ found. IsMarked (texts_of texts.now) found.seen.items (texts_of found.texts.items)) }
@@ -26,7 +26,7 @@ impl<'a> Found<'a> {
         })
     }
 
-    /// Finds the texts of the lists at some places.
+    /// Adds the texts of the lists at some indices.
     pub(crate) fn add_lists(
         &mut self,
         texts: &[&'a str],
@@ -45,7 +45,7 @@ impl<'a> Found<'a> {
         Ok(())
     }
 
-    /// Finds the texts of some numbers.
+    /// Adds the texts with some numbers.
     fn add_all(&mut self, texts: &[&'a str], numbers: &[usize]) -> Result<(), NoMemory>
         requires once { IsOnce (texts_of texts.now) }
         requires below { AreBelow (texts_of texts.now) numbers.now }
@@ -77,7 +77,7 @@ impl<'a> Found<'a> {
     }
 }
 
-/// The numbers of the list at a place, and none where there is no list.
+/// The numbers of the list at an index, and none where there is no list.
 fn numbers_at(lists: &[Vec<usize>], place: usize) -> &[usize]
     ensures { result.now ≡ numbers_at (λ numbers. numbers.items) lists.now place }
 {

@@ -1,4 +1,4 @@
-//! Lists of texts that are told from each other by number, so that many of them can be merged at the cost of their lengths.
+//! Lists of texts that are identified by number, so that many of them can be merged in linear time.
 #![tactic(auto)]
 
 mod found;

@@ -8,7 +8,7 @@ use bridge_io::NoMemory;
 use std::alloc::Global;
 use std::marker::Model;
 
-/// Lists of texts by place. A text that stands in many lists is compared with the others only when it is added.
+/// Lists of texts by index. A text in many lists is compared with the others only when it is added.
 #[derive(Drop)]
 pub struct TextLists<'a> {
     alloc: Global,
@@ -29,7 +29,7 @@ impl<'a> Model for TextLists<'a> {
 }
 
 impl<'a> TextLists<'a> {
-    /// No lists. It takes no memory.
+    /// No lists. It allocates nothing.
     pub fn new(alloc: Global) -> TextLists<'a>
         ensures { result ≡ [] }
     {
@@ -49,8 +49,7 @@ impl<'a> TextLists<'a> {
         Ok(())
     }
 
-    /// The texts of the lists at some places, each once, in the order in which they stand there. A place without a list is passed
-    /// over.
+    /// The texts of the lists at some indices, each once, in order. An index without a list is ignored.
     pub fn merged(&self, places: &[usize]) -> Result<Vec<&'a str>, NoMemory>
         ensures { IfOk result (λ found. texts_of found.items ≡ merged self.now places.now) }
     {

@@ -63,7 +63,7 @@ impl<'a> TextTable<'a> {
         Ok(numbers)
     }
 
-    /// The number of a text, which is added where it isn't there.
+    /// The number of a text, which is added where it is new.
     fn number_of(&mut self, text: &'a str) -> Result<usize, NoMemory>
         ensures grows { Grows (texts_of self.old.texts.items) (texts_of self.new.texts.items) }
         ensures below { IfOk result (λ number. number < length self.new.texts.items) }
@@ -75,7 +75,7 @@ impl<'a> TextTable<'a> {
         }
     }
 
-    /// Adds a text that isn't there. An error leaves the texts as they were.
+    /// Adds a new text. An error leaves the texts as they were.
     fn add(&mut self, text: &'a str) -> Result<usize, NoMemory>
         requires { is_among text.now (texts_of self.old.texts.items) ≡ false }
         ensures ok { IfOk result (λ number. number ≡ length self.old.texts.items) }

@@ -1,4 +1,4 @@
--- Times against which the ends of segments are held.
+-- Times that the ends of segments are compared with.
 use Rattle.std.specs.{Prelude.{◌≡◌, ◌*◌, ◌<◌, ◌^◌, pos, unsigned_abs, Option, Some, None, option_map, unwrap_or}, Int.int_max}
 use Rattle.exact_time.specs.Time.{Time, at_most, nanoseconds}
 use Rattle.timeline.specs.{declared.bound.Bound.Bound, declared.window.Window.Window}
@@ -20,10 +20,10 @@ StandsForSome None None = Unit {0}
 StandsForSome (Some bound) (Some time) = StandsFor bound time
 StandsForSome bound time = ⊥
 
--- the time that a listed segment's end is after: the Period's start, or a later one
+-- the exclusive lower bound of a listed segment's end: the Period's start, or a later time
 abbrev pub low_of : Window → Time
 low_of window = nanoseconds (int_max (unwrap_or window.after (pos 0)) (pos 0))
 
--- the time that a listed segment's end isn't after
+-- the inclusive upper bound of a listed segment's end
 abbrev pub high_of : Window → Option Time
 high_of window = option_map nanoseconds window.until

@@ -12,14 +12,14 @@ pub record Extent : Type 0 where
 abbrev pub lasting : Extent → Time
 lasting x = difference x.end x.start
 
--- the segment that follows on one, as long as it, in ticks of one scale
+-- the segment that follows another, as long as it, in ticks of one scale
 abbrev pub repeat_of : Extent → Extent
 repeat_of x = record {
   start = x.end;
   end = record { ticks = x.end.ticks +ℤ (x.end.ticks -ℤ x.start.ticks); scale = x.end.scale };
 }
 
--- so many segments, each as long as the first one and beginning where the one before it ends
+-- a number of segments, each as long as the first one and beginning where the one before it ends
 unfoldable pub repeated : ℕ → Extent → List Extent
 repeated zero x = []
 repeated (suc count) x = x ∷ repeated count (repeat_of x)
@@ -28,17 +28,17 @@ repeated (suc count) x = x ∷ repeated count (repeat_of x)
 pub data Member : Type 0 where
   -- a segment
   Closed : Extent → Member
-  -- the first segment, as it is written, of an S whose segments go on up to a time that isn't after their start, or
-  -- to none
+  -- the first segment, as it is written, of an S whose segments continue to a time that isn't after their start, or to no
+  -- time
   Short : Extent → Member
-  -- the first one of the segments that go on up to the end of an open Period
+  -- the first one of the segments that continue to the end of an open Period
   Endless : Extent → Member
 
--- how many of these segments end at or before an instant
+-- how many of these segments end at or before a time
 abbrev pub ended_by : Time → Extent → ℕ
 ended_by instant x = if before instant x.end then 0 else steps_within (difference instant x.start) (lasting x)
 
--- the segments that a member gives: those of an open end are as many as end by the instant
+-- the segments of a member: with an open end those that end by the time
 abbrev pub extents_at : Time → Member → List Extent
 extents_at instant (Closed x) = x ∷ []
 extents_at instant (Short x) = []
@@ -64,13 +64,13 @@ goes_on (Closed x) = false
 goes_on (Short x) = false
 goes_on (Endless x) = true
 
--- whether segments go on up to the end of an open Period
+-- whether segments continue to the end of an open Period
 abbrev pub is_open : List Member → Bool
 is_open members = list_any goes_on members
 
--- The segments of a Representation in one Period at every instant, their numbers and their names. `ticks` make a
--- second, `origin` is the media time of the Period's start, and `offset` is `@presentationTimeOffset`, which has no part
--- in the times of a duration.
+-- The segments of a Representation in one Period at every time, their numbers and their names. `ticks` make a second,
+-- `origin` is the media time of the Period's start, and `offset` is `@presentationTimeOffset`, which doesn't matter for
+-- `@duration`.
 pub record SegmentTimeline : Type 0 where
   pub members : List Member
   pub ticks : ℕ
@@ -79,6 +79,6 @@ pub record SegmentTimeline : Type 0 where
   pub first_number : ℕ
   pub names : Names
 
--- the whole expansion, at an instant where the Period's end is open
+-- the whole expansion, at a time where the Period's end is open
 abbrev pub expansion_at : Time → SegmentTimeline → List Timing
 expansion_at instant timeline = numbered timeline.first_number (extents instant timeline.members)

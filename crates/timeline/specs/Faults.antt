@@ -12,7 +12,7 @@ use Rattle.timeline.specs.Durations.{expansion_of_duration, expansion_of_names, 
 use Rattle.timeline.specs.Names.{count_of, asks_for_time}
 use Rattle.mpd_entries.specs.declared.entry.SEntry.{SEntry}
 
--- want of memory tells nothing of the times
+-- out of memory says nothing about the times
 abbrev pub refusal : TimeFault → Option TimeFault
 refusal Memory = None
 refusal fault = Some fault
@@ -31,8 +31,8 @@ is_apart None x = false
 is_apart (Some former) x = let gap = difference x.start former in
     before (lasting x) (record { ticks = pos (2 * unsigned_abs gap.ticks); scale = gap.scale })
 
--- Range and Step by the first segment concerned, Range first. Of the segments that go on to an open end the first one
--- is judged by its start alone.
+-- `Range` and `Step` by the first segment concerned, `Range` first. Of the segments that continue to an open end only the
+-- first one's start is checked.
 abbrev pub segment_fault : (Extent → Bool) → Option Time → List Member → Option TimeFault
 segment_fault breaks former [] = None
 segment_fault breaks former (Closed x ∷ later) =
@@ -40,7 +40,7 @@ segment_fault breaks former (Closed x ∷ later) =
 segment_fault breaks former (Short x ∷ later) = if breaks x then Some Range else Some Step
 segment_fault breaks former (Endless x ∷ later) = if is_apart former x then Some Step else segment_fault breaks former later
 
--- whether names, where they are listed, are as many as the segments
+-- whether there are as many listed names as segments, where names are listed
 abbrev pub are_paired : Option ℕ → List Member → Bool
 are_paired None members = true
 are_paired (Some count) members = not (is_open members) && (length members == count)
@@ -49,7 +49,7 @@ abbrev pub is_negative : ℤ → Bool
 is_negative (pos r) = false
 is_negative (negsuc r) = true
 
--- whether the last S goes on up to the Period's end
+-- whether the last S continues to the Period's end
 abbrev pub ends_open : List SEntry → Bool
 ends_open [] = false
 ends_open (s ∷ []) = is_negative s.r
@@ -59,7 +59,7 @@ abbrev pub is_unbounded : End → Bool
 is_unbounded (At length) = false
 is_unbounded Unbounded = true
 
--- of members, by whether some S lasts no time, and whether the last one goes on up to the Period's end
+-- the fault of members, by whether some S has duration 0, and whether the last one continues to the Period's end
 abbrev pub members_fault : (no_time unended : Bool) → List Member → End → Bool → Scale → Names → Option TimeFault
 members_fault no_time unended members end live scale names =
     or_fault (fault_if no_time ZeroDuration)
@@ -77,7 +77,7 @@ extents_break breaks (Closed x ∷ later) = breaks x || extents_break breaks lat
 extents_break breaks (Short x ∷ later) = extents_break breaks later
 extents_break breaks (Endless x ∷ later) = extents_break breaks later
 
--- whether the last one of so many segments begins at or after the Period's end
+-- whether the last one of a number of segments begins at or after the Period's end
 abbrev pub begins_late : ℕ → End → ℕ → ℕ → Bool
 begins_late ticks Unbounded duration count = false
 begins_late ticks (At length) duration count =

@@ -6,7 +6,7 @@ use Rattle.timeline.specs.{declared.names.Files.Files, declared.names.Names.Name
 use Rattle.timeline.specs.declared.names.Names.TheVariants.{Shared, Addresses}
 use Rattle.timeline.specs.Names.{part_of}
 
--- whether a template names files, for which the base's text leaves room in an address
+-- whether a template gives valid file names that fit into a URL with the base
 abbrev pub are_files : Names → Bool
 are_files (Template media id bandwidth base) = nat_le (length base) 1793 && names_files media
     (record { id = id; bandwidth = bandwidth; number = 0; time = 0 })
@@ -21,7 +21,7 @@ folder_of_names (Listed parts base) = []
 folder_of_names (Shared parts base) = []
 folder_of_names (Addresses parts) = []
 
--- what a template names
+-- the name that a template gives
 abbrev pub file_name : Names → (number time : ℕ) → List ℕ
 file_name (Template media id bandwidth base) number time =
     named media (record { id = id; bandwidth = bandwidth; number = number; time = time })
@@ -29,12 +29,12 @@ file_name (Listed parts base) number time = []
 file_name (Shared parts base) number time = []
 file_name (Addresses parts) number time = []
 
--- each name has an address, which is the folder's text and the name
+-- each name has a URL, which is the folder's text and the name
 abbrev pub AreInFolder : Names → Type 0
 AreInFolder names = (place number time : ℕ) → number < 2 ^ 64 → time < 2 ^ 64 →
     part_of names place number time ≡ Ok (record { address = folder_of_names names ++ file_name names number time; range = None })
 
--- a folder's text, and the names that lie in it
+-- a folder's text, and the names in it
 pub record AreFilesOf (names : Names) (files : Files) : Type 0 where
   pub folder : string_bytes files.folder ≡ folder_of_names names
   pub names_are : (number time : ℕ) → name_of files.names number time ≡ file_name names number time

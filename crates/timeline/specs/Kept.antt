@@ -1,4 +1,4 @@
--- The segments that a `Runs` keeps.
+-- The segments that a `Runs` stores.
 use Rattle.std.specs.Prelude.{◌≡◌, ℕ, ◌+◌, ◌*◌, ◌<◌, ◌≤◌, ◌^◌, pos, ◌+ℤ◌, ◌≤ℤ◌, List, [], ◌∷◌, ◌++◌, map, All, Option, Some, None}
 use Rattle.timeline.specs.{Expansions.{SegmentTimeline, Member, Closed, Endless as GoesOn}, RunSegments.{TimedRun, AreLaid, IsEndless}}
 use Rattle.timeline.specs.{RunSegments.{all_extents, first_of}, Steady.{AreLasting, EndInTime, IsSteady}, Ratios.natural, RunTables.runs_at}
@@ -21,8 +21,8 @@ timeline_of r = record {
   names = r.names;
 }
 
--- Segments that go on to an open end follow at `total`. The first one begins so late that each segment before it has a
--- tick, but for half its own duration, by which it may overlap them.
+-- Segments that continue to an open end follow at `total`. The first one begins so late that each segment before it has a
+-- tick, except that it may overlap them by half its own duration.
 pub record Follows (ticks origin total : ℕ) (e : Endless) : Type 0 where
   pub is : IsEndless e
   pub short : e.step < 2 ^ 64

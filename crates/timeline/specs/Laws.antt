@@ -9,7 +9,7 @@ use Rattle.mpd_entries.specs.declared.entry.SEntry.{SEntry}
 abbrev pub EndsRise : List Member → Type 0
 EndsRise members = (instant : Time) → AreRising (map (λ x. x.end) (extents instant members))
 
--- no segment is apart from the one before it, and no time that segments go up to is at or before their start
+-- no segment is apart from the one before it, and no time that segments continue to is at or before their start
 abbrev pub HasNoStep : List Member → Type 0
 HasNoStep members = segment_fault (λ _. false) None members ≡ None
 

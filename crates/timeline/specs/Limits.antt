@@ -1,4 +1,4 @@
--- How far and how long segments may be.
+-- Limits of segments: the latest end and the longest duration.
 use Rattle.std.specs.Prelude.{ℕ, ◌-◌, ◌^◌, pos, ◌-ℤ◌, Bool, ◌||◌}
 use Rattle.exact_time.specs.Time.{seconds, before, at_most}
 use Rattle.timeline.specs.{Expansions.{Extent, lasting}, declared.limits.Limits.Limits}
@@ -7,7 +7,7 @@ use Rattle.timeline.specs.{Expansions.{Extent, lasting}, declared.limits.Limits.
 abbrev pub too_long : Extent → Bool
 too_long x = before (seconds 1000000) (lasting x)
 
--- A segment breaks the limits that ends at a media time of 2^63 ticks or more, lasts longer than 1,000,000 s, or ends
+-- A segment breaks the limits where it ends at a media time of 2^63 ticks or more, lasts longer than 1,000,000 s, or ends
 -- more than 10^11 s after the Period's start.
 abbrev pub breaks_limits : ℕ → ℕ → Extent → Bool
 breaks_limits ticks origin x =
@@ -15,11 +15,11 @@ breaks_limits ticks origin x =
     || too_long x
     || before (seconds 100000000000) x.end
 
--- the ticks of a time that is given are its own
+-- a given time has its own ticks
 abbrev pub span_breaks_limits : Extent → Bool
 span_breaks_limits x = breaks_limits x.end.scale 0 x
 
--- the segment that ends at a media time and lasts so many ticks
+-- the segment that ends at a media time and lasts a number of ticks
 abbrev pub media_extent : Limits → ℕ → ℕ → Extent
 media_extent limits end step = record {
   start = record { ticks = pos (end - step) -ℤ pos limits.origin; scale = limits.ticks };

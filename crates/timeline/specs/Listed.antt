@@ -24,19 +24,19 @@ is_listed window x = before (seconds 0) x.end && is_after window.after x.end && 
 abbrev pub listed : Window → List Timing → List Timing
 listed window xs = filter (is_listed window) xs
 
--- the instant up to which the segments of an open end go on
+-- the time that the segments of an open end continue to
 abbrev pub instant_of : Window → Time
 instant_of window = nanoseconds (unwrap_or window.until (pos 0))
 
--- the whole expansion, an open end taken at the window's `until`
+-- the whole expansion, with an open end taken at the window's `until`
 abbrev pub expansion : SegmentTimeline → Window → List Timing
 expansion timeline window = expansion_at (instant_of window) timeline
 
--- the listed segments from a place in the whole expansion on
+-- the listed segments from an index in the whole expansion on
 abbrev pub listed_from : ℕ → SegmentTimeline → Window → List Timing
 listed_from place timeline window = listed window (drop place (expansion timeline window))
 
--- whether segments that go on to an open end reach one that breaks the limits
+-- whether segments that continue to an open end reach one that breaks the limits
 abbrev pub reaches_fault : SegmentTimeline → Window → Member → Bool
 reaches_fault timeline window (Closed x) = false
 reaches_fault timeline window (Short x) = false
@@ -51,21 +51,21 @@ abbrev pub answered_count : SegmentTimeline → Window → Result ℕ TimeFault
 answered_count timeline window = if is_out_of_range timeline window then Err Range
     else Ok (length (listed window (expansion timeline window)))
 
--- an open end needs an instant
+-- an open end needs an `until`
 abbrev pub IsWindowOf : SegmentTimeline → Window → Type 0
 IsWindowOf timeline window = is_open timeline.members ≡ true → IsSome window.until
 
--- `count` doesn't answer Range
+-- `count` doesn't return `Range`
 abbrev pub IsReached : SegmentTimeline → Window → Type 0
 IsReached timeline window = is_out_of_range timeline window ≡ false
 
--- a place before the first listed segment, where there is one
+-- the index of the first listed segment, where there is one
 pub record IsFirstListed (window : Window) (xs : List Timing) (place : ℕ) : Type 0 where
   pub none_before : listed window (take place xs) ≡ []
   pub stands : (listed window xs ≡ []) ⊎ IsSome (slice_get (listed window (take 1 (drop place xs))) 0)
 
--- a place behind all segments that end by a time, and before all that end after it; at the end or behind it, where there
--- are none of these
+-- an index after all segments that end by a time, and before all that end after it; at the end or after it, where there are
+-- none of these
 pub record IsPlaceAfter (time : Time) (xs : List Timing) (place : ℕ) : Type 0 where
   pub none_before : All (λ x. at_most x.end time ≡ true) (take place xs)
   pub all_behind : All (λ x. before time x.end ≡ true) (drop place xs)
@@ -81,7 +81,7 @@ offset_of timeline = record { ticks = pos timeline.offset; scale = timeline.tick
 abbrev pub media_time : SegmentTimeline → Timing → ℕ
 media_time timeline x = natural (x.start.ticks +ℤ pos timeline.origin)
 
--- the address and range of a segment
+-- the URL and byte range of a segment
 abbrev pub part_of_timing : SegmentTimeline → Timing → Result Part ListFault
 part_of_timing timeline x = part_of timeline.names (x.number - timeline.first_number) x.number (media_time timeline x)
 
@@ -95,7 +95,7 @@ pub record Rest : Type 0 where
   pub timeline : SegmentTimeline
   pub left : List Timing
 
--- the next segment was made, with its own address
+-- the next segment was made, with its own URL
 pub record IsMade (old : Rest) (made : Made) (new : Rest) : Type 0 where
   pub next : old.left ≡ made.times ∷ new.left
   pub part : part_of_timing old.timeline made.times ≡ Ok made.part
@@ -106,7 +106,7 @@ pub record IsDone (old new : Rest) : Type 0 where
   pub none : old.left ≡ []
   pub same : new ≡ old
 
--- the next segment has no address, or memory was wanting, and nothing has changed
+-- the next segment has no URL, or memory ran out, and nothing has changed
 pub record IsHeld (old : Rest) (fault : ListFault) (new : Rest) : Type 0 where
   pub same : new ≡ old
   pub some : IsSome (slice_get old.left 0)
@@ -123,14 +123,14 @@ pub record CanBeNamed (timeline : SegmentTimeline) (x : Timing) : Type 0 where
   pub numbered : timeline.first_number ≤ x.number
   pub timed : media_time timeline x < 2 ^ 64
 
--- the walk went behind the next segment
+-- the iterator moved past the next segment
 pub record IsPassed (old : Rest) (times : Timing) (new : Rest) : Type 0 where
   pub next : old.left ≡ times ∷ new.left
   pub can : CanBeNamed old.timeline times
   pub countable : times.number < 2 ^ 64
   pub timeline : new.timeline ≡ old.timeline
 
--- how many segments a call went behind
+-- how many segments a call moved past
 abbrev pub passed_count : Option Span → ℕ
 passed_count (Some span) = 1
 passed_count None = 0

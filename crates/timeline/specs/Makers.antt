@@ -1,16 +1,16 @@
--- What is worked out once for the names of a Representation.
+-- What is computed once for the names of a Representation.
 use Rattle.std.specs.Prelude.{◌≡◌, ℕ, true, List, string_bytes, IfSome, Option}
 use Rattle.template_ids.specs.{declared.filled.Filled.Filled, Filled.{IsFilled, goes_on_in_path}}
 use Rattle.url_parts.specs.Paths.{IsBeneath}
 use Rattle.timeline.specs.{declared.filled_names.FilledNames.FilledNames, declared.maker.Maker.Maker, declared.names.Names.Names}
 use Rattle.timeline.specs.declared.names.Names.TheVariants.{Template, List as Listed, Shared, Addresses}
 
--- what stands behind the front of the names is resolved against the deeper base as whole names are against the base
+-- the names without their common prefix, resolved against the deeper base, give what whole names give against the base
 abbrev pub GoesOnBeneath : (base : List ℕ) → Filled → Option (List ℕ) → Type 0
 GoesOnBeneath base names deeper =
     IfSome deeper (λ deeper. (goes_on_in_path names ≡ true) × IsBeneath base (string_bytes names.front) deeper)
 
--- the names are those of a template, with what they have in common worked out
+-- the names are those of a template, with their common part computed
 pub record IsFilledBy (media id : List ℕ) (bandwidth : ℕ) (base : List ℕ) (filled : FilledNames) : Type 0 where
   pub names : IsFilled media id bandwidth filled.names
   pub beneath : GoesOnBeneath base filled.names filled.beneath

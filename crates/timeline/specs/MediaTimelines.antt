@@ -12,7 +12,7 @@ use Rattle.timeline.specs.{SegmentTimelines.timeline_of_members, Steady.AreLasti
 use Rattle.timeline.specs.Timelines.{expansion_of_timeline, extent_from, members_from, reach_of}
 use Rattle.mpd_entries.specs.declared.entry.SEntry.{SEntry}
 
--- the S elements that have no run here
+-- the S elements that have no common run
 abbrev pub rest_of : List SEntry → MediaRuns → List SEntry
 rest_of entries m = drop (length m.runs.items) entries
 
@@ -27,7 +27,7 @@ media_end l m = if m.total == 0 then None else Some (placed_in l m.former)
 abbrev pub are_passed : Limits → ℕ → ℕ → Bool
 are_passed l longest end = nat_lt (l.ticks * 1000000) longest || nat_lt (l.origin + l.ticks * 100000000000) end
 
--- the run of an S for every timescale: it neither lies apart from the one before it nor ends too late in media time
+-- the run of an S for every timescale: it is neither apart from the one before it, nor ends too late in media time
 pub record IsNextRun (m : MediaRuns) (s : SEntry) (later : List SEntry) (run : MediaRun) : Type 0 where
   pub start : run.start ≡ start_of m.former s
   pub step : run.step ≡ s.d
@@ -39,14 +39,14 @@ pub record IsNextRun (m : MediaRuns) (s : SEntry) (later : List SEntry) (run : M
   pub late_enough : 0 < m.total → 2 * m.former ≤ 2 * run.start + run.step
   pub early_enough : 0 < m.total → 2 * run.start ≤ 2 * m.former + run.step
 
--- a run stands behind the others
+-- a run was added after the others
 pub record IsPushed (old : MediaRuns) (run : MediaRun) (new : MediaRuns) : Type 0 where
   pub runs : new.runs.items ≡ old.runs.items ++ run ∷ []
   pub total : new.total ≡ old.total + run.count
   pub former : new.former ≡ run.start + run.count * run.step
   pub longest : new.longest ≡ max old.longest run.step
 
--- the runs stand in a row, and tell their first fault at every timescale
+-- the runs are in order, and determine their first fault at every timescale
 pub record AreMediaRuns (m : MediaRuns) : Type 0 where
   pub begun : m.total ≡ 0 → m.former ≡ 0
   pub room : m.total ≤ m.former
@@ -57,7 +57,7 @@ pub record AreMediaRuns (m : MediaRuns) : Type 0 where
   pub judged : (l : Limits) (later : List Member) → segment_fault (breaks_in l) None (map Closed (all_extents (runs_by l m)) ++ later)
       ≡ (if are_passed l m.longest m.former then Some Range else segment_fault (breaks_in l) (media_end l m) later)
 
--- the runs are those of the first S elements
+-- the runs are those of the leading S elements
 pub record IsMedia (entries : List SEntry) (m : MediaRuns) : Type 0 where
   pub runs : AreMediaRuns m
   pub fewer : length m.runs.items ≤ length entries
@@ -69,7 +69,7 @@ pub record IsLaidTimeline (t : LaidTimeline) : Type 0 where
   pub media : AreMediaRuns t.media
   pub lasting : t.no_time ≡ false → list_any (λ s. s.d == 0) t.rest ≡ false
 
--- the segments of the runs at a scale, and those of the S elements behind them
+-- the segments of the runs at a scale, and those of the S elements after them
 abbrev pub expansion_of_laid : Scale → End → LaidTimeline → List Member
 expansion_of_laid scale end t =
     map Closed (all_extents (map (placed_run scale.ticks scale.offset) t.media.runs.items)) ++ members_from scale end t.media.former t.rest
@@ -78,7 +78,7 @@ abbrev pub timeline_of_laid : LaidTimeline → End → Bool → Scale → Names 
 timeline_of_laid t end live scale names =
     timeline_of_members t.no_time (ends_open t.rest) (expansion_of_laid scale end t) end live scale names
 
--- S elements are laid out so
+-- this is how S elements are laid out
 pub record LaysOut (entries : List SEntry) (t : LaidTimeline) : Type 0 where
   pub no_time : t.no_time ≡ list_any (λ s. s.d == 0) entries
   pub ending : ends_open t.rest ≡ ends_open entries

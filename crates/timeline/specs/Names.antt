@@ -1,4 +1,4 @@
--- The addresses of segments.
+-- The URLs of segments.
 use Rattle.std.specs.Prelude.{ℕ, Bool, false, List, length, slice_get, Option, Some, None, Result, Ok, Err}
 use Rattle.template_ids.specs.Templates.{named, uses_time}
 use Rattle.url_parts.specs.{Addresses.resolve, declared.address.Part.Part, declared.range.Range.Range, declared.fault.UrlFault.UrlFault}
@@ -14,14 +14,14 @@ count_of (Listed parts base) = Some (length parts)
 count_of (Shared parts base) = Some (length parts)
 count_of (Addresses parts) = Some (length parts)
 
--- whether a template asks for a segment's media time
+-- whether a template uses `$Time$`
 abbrev pub asks_for_time : Names → Bool
 asks_for_time (Template media id bandwidth base) = uses_time media
 asks_for_time (Listed parts base) = false
 asks_for_time (Shared parts base) = false
 asks_for_time (Addresses parts) = false
 
--- want of memory tells nothing of the address
+-- out of memory says nothing about the URL
 abbrev pub list_refusal : ListFault → Option ListFault
 list_refusal Memory = None
 list_refusal (Url fault) = Some (Url fault)
@@ -43,12 +43,12 @@ abbrev pub listed_part : List ℕ → Option RefPart → Result Part ListFault
 listed_part base None = part_at None (Ok base)
 listed_part base (Some part) = part_at part.range (referred base part.reference)
 
--- an address that is there already; behind the last one there is none
+-- a URL of the list; after the last one there is none
 abbrev pub own_part : Option Part → Result Part ListFault
 own_part None = Err (Url Refused)
 own_part (Some part) = Ok part
 
--- the address and range of the segment at a place, with a number and a media time
+-- the URL and byte range of the segment at an index, with a number and a media time
 abbrev pub part_of : Names → ℕ → ℕ → ℕ → Result Part ListFault
 part_of (Template media id bandwidth base) place number time =
     part_at None (resolve base (named media (record { id = id; bandwidth = bandwidth; number = number; time = time })))

@@ -1,4 +1,4 @@
--- The segments of a duration while they are put in a row.
+-- The segments of a duration while they are collected.
 use Rattle.std.specs.Prelude.{◌≡◌, ℕ, ◌+◌, ◌*◌, pos, Bool, true, false, List, [], ◌∷◌, ◌++◌, map, IfSome, IsNone, Option, Some, None}
 use Rattle.std.specs.List.{list_any}
 use Rattle.exact_time.specs.Time.{in_units, nanoseconds}
@@ -8,11 +8,11 @@ use Rattle.timeline.specs.{declared.limits.Limits.Limits, Ratios.{earlier, steps
 use Rattle.timeline.specs.{Durations.expansion_of_names, Faults.{begins_late, extents_break, fault_if, is_too_many, members_by, or_fault}}
 use Rattle.timeline.specs.{Faults.refusal, Building.{IsInTime, IsLaidOut, breaks_in, extent_in, members_so_far}, Limits.breaks_limits}
 
--- so many segments from the Period's start on
+-- a number of segments from the Period's start on
 abbrev pub row_of : Limits → ℕ → ℕ → List Extent
 row_of l duration count = repeated count (extent_in l 0 duration)
 
--- nothing is in the row yet, and times are counted from the Period's start
+-- nothing was collected yet, and times are relative to the Period's start
 pub record IsFresh (l : RunsBuilder) : Type 0 where
   pub laid : IsInTime l
   pub closed : IsNone l.endless
@@ -21,7 +21,7 @@ pub record IsFresh (l : RunsBuilder) : Type 0 where
   pub former : l.former ≡ 0
   pub origin : l.limits.origin ≡ 0
 
--- so many whole segments are in the row, and none breaks the limits
+-- `count` whole segments were collected, and none breaks the limits
 pub record IsRow (limits : Limits) (duration count : ℕ) (l : RunsBuilder) : Type 0 where
   pub laid : IsInTime l
   pub closed : IsNone l.endless
@@ -30,7 +30,7 @@ pub record IsRow (limits : Limits) (duration count : ℕ) (l : RunsBuilder) : Ty
   pub members : members_so_far l ≡ map Closed (row_of limits duration count)
   pub kept : list_any (breaks_in limits) (row_of limits duration count) ≡ false
 
--- a fault is Range, where some segment breaks the limits
+-- the fault is `Range`, where some segment breaks the limits
 abbrev pub IsRange : Bool → TimeFault → Type 0
 IsRange broken fault = IfSome (refusal fault) (λ f. (f ≡ Range) × (broken ≡ true))
 
@@ -41,14 +41,14 @@ last_extent ticks length start duration = record {
   end = earlier (in_units ticks (start + duration)) (nanoseconds (pos length));
 }
 
--- one more segment is in the row, which doesn't break the limits
+-- one more segment was collected, which doesn't break the limits
 pub record IsLast (old : RunsBuilder) (x : Extent) (new : RunsBuilder) : Type 0 where
   pub laid : IsLaidOut new
   pub limits_are : new.limits ≡ old.limits
   pub members : members_so_far new ≡ members_so_far old ++ Closed x ∷ []
   pub kept : breaks_in old.limits x ≡ false
 
--- Range, or else more names than segments
+-- `Range`, or else more names than segments
 abbrev pub cut_fault : ℕ → ℕ → ℕ → ℕ → Option TimeFault
 cut_fault ticks length duration count =
     or_fault (fault_if (extents_break (breaks_limits ticks 0) (expansion_of_names ticks (At length) duration count)) Range)
@@ -64,7 +64,7 @@ counted_fault ticks end duration names =
     or_fault (fault_if (extents_break (breaks_limits ticks 0) (members_by ticks end duration names)) Range)
     (fault_if (is_too_many ticks end duration names) ListLength)
 
--- the members are in the row, and they have no fault
+-- the members were collected, and have no fault
 pub record AreCounted (ticks : ℕ) (members : List Member) (fault : Option TimeFault) (l : RunsBuilder) : Type 0 where
   pub scale : l.limits.ticks ≡ ticks
   pub origin : l.limits.origin ≡ 0

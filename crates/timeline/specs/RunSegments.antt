@@ -1,4 +1,4 @@
--- The segments that a run stands for.
+-- The segments of a run.
 use Rattle.std.specs.Prelude.{◌≡◌, ℕ, ◌+◌, ◌-◌, ◌*◌, ◌<◌, ◌≤◌, ◌^◌, pos, ◌+ℤ◌, ◌-ℤ◌, ◌<ℤ◌, unsigned_abs, List, [], ◌∷◌, ◌++◌, length, drop}
 use Rattle.std.specs.Prelude.{slice_index_or, flat_map, count_by, Option, Some, None}
 use Rattle.exact_time.specs.{Time.{Time, at_most}, Tick.time_of, declared.tick.Tick.Tick}
@@ -16,7 +16,7 @@ pub record TimedRun : Type 0 where
 abbrev pub timed : Run → TimedRun
 timed run = record { start = time_of run.start; end = time_of run.end; step = run.step; count = run.count; before = run.before }
 
--- a run in media ticks, of which so many make a second, counted from the media time of the Period's start
+-- a run in media ticks at a timescale, relative to the media time of the Period's start
 abbrev pub placed_run : ℕ → ℕ → MediaRun → TimedRun
 placed_run ticks origin run = record {
   start = record { ticks = pos run.start -ℤ pos origin; scale = ticks };
@@ -39,7 +39,7 @@ abbrev pub extents_of_some : Option TimedRun → List Extent
 extents_of_some None = []
 extents_of_some (Some s) = extents_of s
 
--- where several segments stand, they last `step` ticks of one scale
+-- where there are several segments, they last `step` ticks of one scale
 pub record IsRun (s : TimedRun) : Type 0 where
   pub start_is : 0 < s.start.scale
   pub end_is : 0 < s.end.scale
@@ -51,7 +51,7 @@ pub record IsRun (s : TimedRun) : Type 0 where
   pub near : (s.end.ticks +ℤ pos (s.count * s.step)) <ℤ pos (2 ^ 64)
   pub countable : s.before + s.count < 2 ^ 64
 
--- the segments of a run from a place on, of which there are some
+-- the segments of a run from an index on, at least one
 pub record IsRestOf (whole : TimedRun) (place : ℕ) (rest : TimedRun) : Type 0 where
   pub is : IsRun rest
   pub some : 0 < rest.count
@@ -59,14 +59,14 @@ pub record IsRestOf (whole : TimedRun) (place : ℕ) (rest : TimedRun) : Type 0 
   pub end : rest.before + rest.count ≡ whole.before + whole.count
   pub extents : extents_of rest ≡ drop (place - whole.before) (extents_of whole)
 
--- one segment that stands behind so many
+-- one segment, after a number of others
 pub record IsOne (before : ℕ) (x : Extent) (s : TimedRun) : Type 0 where
   pub is : IsRun s
   pub placed : s.before ≡ before
   pub one : s.count ≡ 1
   pub head : head_of s ≡ x
 
--- the segments of a run last `step` ticks of one scale, and this one follows on them, with room for one more
+-- the segments of a run last `step` ticks of one scale, and this one follows them, with room for one more
 pub record GoesOnAs (s : TimedRun) (x : Extent) : Type 0 where
   pub one_scale : s.start.scale ≡ s.end.scale
   pub in_ticks : s.end.ticks ≡ s.start.ticks +ℤ pos s.step
@@ -74,7 +74,7 @@ pub record GoesOnAs (s : TimedRun) (x : Extent) : Type 0 where
   pub end_is : x.end ≡ record { ticks = s.end.ticks +ℤ pos (s.count * s.step); scale = s.end.scale }
   pub near : (x.end.ticks +ℤ pos s.step) <ℤ pos (2 ^ 64)
 
--- the segments of a run with one more behind them
+-- the segments of a run with one more after them
 pub record IsLonger (s : TimedRun) (x : Extent) (more : TimedRun) : Type 0 where
   pub is : IsRun more
   pub placed : more.before ≡ s.before
@@ -85,14 +85,14 @@ pub record IsLonger (s : TimedRun) (x : Extent) (more : TimedRun) : Type 0 where
 abbrev pub count_ended : Time → List Extent → ℕ
 count_ended time xs = count_by (λ x. at_most x.end time) xs
 
--- the first one of segments that go on without end
+-- the first one of segments that repeat without end
 abbrev pub first_of : Endless → Extent
 first_of e = record { start = time_of e.start; end = record { ticks = e.start.n +ℤ pos e.step; scale = e.start.scale } }
 
 pub record IsEndless (e : Endless) : Type 0 where
   pub lasting : 0 < e.step
 
--- so many of the segments are a run
+-- the first `count` of the segments are a valid run
 pub record HasRoom (e : Endless) (count : ℕ) : Type 0 where
   pub near : 0 < count → (e.start.n +ℤ pos ((count + 1) * e.step)) <ℤ pos (2 ^ 64)
   pub countable : e.before + count < 2 ^ 64
@@ -106,7 +106,7 @@ endless_extents e instant = repeated (endless_count e instant) (first_of e)
 abbrev pub all_extents : List TimedRun → List Extent
 all_extents runs = flat_map extents_of runs
 
--- no run is empty, and each knows how many segments stand before it; `total` stand before their end
+-- no run is empty, and each has the number of segments before it; `total` segments are before their end
 abbrev pub AreLaid : ℕ → List TimedRun → ℕ → Type 0
 AreLaid before [] total = before ≡ total
 AreLaid before (s ∷ later) total = (s.before ≡ before) × (0 < s.count) × IsRun s × AreLaid (before + s.count) later total
@@ -115,7 +115,7 @@ abbrev pub IsTail : ℕ → Option TimedRun → Type 0
 IsTail total None = Unit {0}
 IsTail total (Some s) = (s.before ≡ total) × (0 < s.count) × IsRun s
 
--- so many segments stand before the first run, `finish` of all the segments are wanted, and they are there
+-- `before` segments are before the first run, and there are at least `finish` segments in all
 pub record AreLaidFrom (before : ℕ) (runs : List TimedRun) (tail : Option TimedRun) (finish : ℕ) : Type 0 where
   pub laid : AreLaid before runs (before + length (all_extents runs))
   pub tail_is : IsTail (before + length (all_extents runs)) tail
@@ -124,12 +124,12 @@ pub record AreLaidFrom (before : ℕ) (runs : List TimedRun) (tail : Option Time
 abbrev pub AreLaidWith : List TimedRun → Option TimedRun → ℕ → Type 0
 AreLaidWith runs tail finish = AreLaidFrom 0 runs tail finish
 
--- what stands behind a run is split into the next one and what stands behind that
+-- the segments after a run are split into the next run and what follows that
 abbrev pub IsSplit : List TimedRun → Option TimedRun → Option TimedRun → List TimedRun → Option TimedRun → Type 0
 IsSplit [] tail now later rest = (now ≡ tail) × (later ≡ []) × (rest ≡ None)
 IsSplit (s ∷ runs) tail now later rest = (now ≡ Some s) × (later ≡ runs) × (rest ≡ tail)
 
--- so many runs end at or before a place, and the next one doesn't
+-- the first `count` runs end at or before an index, and the next one doesn't
 pub record ArePassed (place : ℕ) (runs : List TimedRun) (count : ℕ) : Type 0 where
   pub within : count ≤ length runs
   pub passed : (k : ℕ) (s : TimedRun) → k < count → (slice_index_or runs k s).before + (slice_index_or runs k s).count ≤ place

@@ -1,4 +1,4 @@
--- The runs of a table, and of what is left of one.
+-- The runs of a table, and of the rest of one.
 use Rattle.std.specs.Prelude.{◌≡◌, ℕ, ◌+◌, ◌<◌, ◌≤◌, Bool, true, false, min, leb, length, get_or, List, [], ◌++◌, map, Option, Some, None}
 use Rattle.std.specs.declared.rc.Rc.{Rc}
 use Rattle.exact_time.specs.Time.{at_most}
@@ -16,7 +16,7 @@ runs_at ticks origin table = map (placed_run ticks origin) (media_of table.laid)
 abbrev pub slice_runs : RunSlice → List TimedRun
 slice_runs s = map (placed_run s.limits.ticks s.limits.origin) s.media.now ++ map timed s.own.now
 
--- whether all segments of a run stand before a place, or the first one ends by a bound
+-- whether all segments of a run are before an index, or the first one ends by a bound
 abbrev pub passes : Test → TimedRun → Bool
 passes (EndsBy place) run = leb (min (run.before + run.count) 18446744073709551615) place
 passes (BeginsBy bound) run = at_most run.end (time_of_bound bound)

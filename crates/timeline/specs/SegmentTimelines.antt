@@ -1,4 +1,4 @@
--- What the constructors of `Runs` give.
+-- The results of the constructors of `Runs`.
 use Rattle.std.specs.{Prelude.{ℕ, ◌==◌, Bool, List, not, Option, Some, None, Result, Ok, Err, IsSome}, List.list_any}
 use Rattle.timeline.specs.{declared.fault.TimeFault.TimeFault, declared.fault.TimeFault.TheVariants.ListLength, declared.entry.Scale.Scale}
 use Rattle.timeline.specs.{declared.entry.End.End, declared.span.Span.Span, declared.names.Names.Names}
@@ -34,7 +34,7 @@ abbrev pub timeline_of_entries : List SEntry → End → Bool → Scale → Name
 timeline_of_entries entries end live scale names = timeline_of_members (list_any (λ s. s.d == 0) entries) (ends_open entries)
     (expansion_of_timeline scale end entries) end live scale names
 
--- the times of segments by a duration are counted from the Period's start
+-- the times of segments by a duration are relative to the Period's start
 abbrev pub timeline_of_duration : ℕ → End → Bool → Scale → Names → Result SegmentTimeline TimeFault
 timeline_of_duration duration end live scale names = unless_fault (duration_fault duration end live scale names)
     (timeline_from scale 0 names (members_by scale.ticks end duration (count_of names)))

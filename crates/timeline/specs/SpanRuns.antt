@@ -1,4 +1,4 @@
--- The next segments of a walk that last equally long.
+-- The next segments of equal length.
 use Rattle.std.specs.Prelude.{◌≡◌, ◌+◌, ◌-◌, ◌*◌, ◌<◌, ◌≤◌, ◌^◌, pos, ◌+ℤ◌, ◌<ℤ◌, List, ◌∷◌, ◌++◌, map}
 use Rattle.exact_time.specs.{Equal.ends_after, Tick.time_of}
 use Rattle.timeline.specs.{Durations.extent_of, Expansions.{Timing, numbered, repeated}, declared.span.SpanRun.SpanRun}
@@ -6,7 +6,7 @@ use Rattle.timeline.specs.{Durations.extent_of, Expansions.{Timing, numbered, re
 abbrev pub timings_of : SpanRun → List Timing
 timings_of run = numbered run.first.number (repeated run.count (extent_of run.first))
 
--- The next segments were passed. A `Rounder` takes the first end by `next`, and the others by `next_equal`, which asks for
+-- The next segments were passed. A `Rounder` takes the first end by `next`, and the others by `next_equal`, which requires
 -- this room.
 pub record IsNextRun (old : List Timing) (run : SpanRun) (new : List Timing) : Type 0 where
   pub next : old ≡ timings_of run ++ new

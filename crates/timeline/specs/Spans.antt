@@ -1,4 +1,4 @@
--- Segments whose times are given one by one, while they are judged and put in a row.
+-- Segments with given times, while they are checked and collected.
 use Rattle.std.specs.Prelude.{◌≡◌, ℕ, ◌+◌, Bool, false, List, ◌++◌, length, IsNone, Option, Some, None, option_map, if◌then◌else◌}
 use Rattle.std.specs.List.{list_any}
 use Rattle.exact_time.specs.{Tick.time_of, declared.tick.Tick.Tick}
@@ -10,13 +10,13 @@ use Rattle.timeline.specs.Limits.{span_breaks_limits}
 abbrev pub have_no_time : List Span → Bool
 have_no_time spans = list_any (λ span. lasts_no_time (extent_of span)) spans
 
--- the fault of one segment that follows on a time
+-- the fault of one segment, given the end of the one before it
 abbrev pub fault_of_span : Option Tick → Span → Option TimeFault
 fault_of_span former span =
     if span_breaks_limits (extent_of span) then Some Range else (if is_apart (option_map time_of former) (extent_of span) then Some Step
     else None)
 
--- some segments are in the row, and the others are judged from the last end on
+-- some segments were collected, and the others are checked from the last end on
 pub record IsRowSoFar (ticks : ℕ) (spans : List Span) (l : RunsBuilder) (former : Option Tick) (rest : List Span) : Type 0 where
   pub scale : l.limits.ticks ≡ ticks
   pub origin : l.limits.origin ≡ 0
@@ -28,7 +28,7 @@ pub record IsRowSoFar (ticks : ℕ) (spans : List Span) (l : RunsBuilder) (forme
   pub judged : segment_fault span_breaks_limits None (expansion_of_list spans)
       ≡ segment_fault span_breaks_limits (option_map time_of former) (expansion_of_list rest)
 
--- the members are in the row, and have no fault
+-- the members were collected, and have no fault
 pub record AreInRow (ticks : ℕ) (members : List Member) (l : RunsBuilder) : Type 0 where
   pub scale : l.limits.ticks ≡ ticks
   pub origin : l.limits.origin ≡ 0

@@ -5,7 +5,7 @@ use Rattle.timeline.specs.{declared.window.Window.Window, Expansions.SegmentTime
 use Rattle.timeline.specs.SegmentTimelines.{timeline_of_entries, timeline_of_duration, timeline_of_spans}
 use Rattle.mpd_entries.specs.declared.entry.SEntry.{SEntry}
 
--- each listed start is counted in the timeline's ticks
+-- each listed start is in the timeline's ticks
 abbrev pub StartInTicks : SegmentTimeline → Type 0
 StartInTicks timeline = (place : ℕ) (window : Window) → All (λ x. x.start.scale ≡ timeline.ticks) (listed_from place timeline window)
 

@@ -5,42 +5,42 @@ use Rattle.timeline.specs.{declared.entry.Scale.Scale, declared.entry.End.End, d
 use Rattle.timeline.specs.{Ratios.steps_to_cover, Expansions.{Extent, Member, Closed, Short, Endless, lasting, repeated}}
 use Rattle.mpd_entries.specs.declared.entry.SEntry.{SEntry}
 
--- a media time, counted from the Period's start
+-- a media time, relative to the Period's start
 abbrev pub placed : Scale → ℕ → Time
 placed scale t = record { ticks = pos t -ℤ pos scale.offset; scale = scale.ticks }
 
 abbrev pub extent_from : Scale → ℕ → ℕ → Extent
 extent_from scale start d = record { start = placed scale start; end = placed scale (start + d) }
 
--- how far the segments of an S go on
+-- how far the segments of an S continue
 pub data Reach : Type 0 where
-  -- so many segments
+  -- this many segments
   Counted : ℕ → Reach
-  -- up to a time
+  -- to a time
   UpTo : Time → Reach
-  -- up to an end that isn't known yet
+  -- to an end that isn't known yet
   Unending : Reach
   -- to no time
   Nowhere : Reach
 
--- up to the start of the next S, where that has one
+-- to the start of the next S, where that has one
 abbrev pub reach_of_next : Scale → Option ℕ → Reach
 reach_of_next scale None = Nowhere
 reach_of_next scale (Some t) = UpTo (placed scale t)
 
--- up to the Period's end
+-- to the Period's end
 abbrev pub reach_of_end : End → Reach
 reach_of_end (At length) = UpTo (nanoseconds (pos length))
 reach_of_end Unbounded = Unending
 
--- An `@r` that isn't negative counts the segments after the first one. A negative one goes on up to the start of the
--- next S, and in the last S up to the Period's end.
+-- A non-negative `@r` counts the segments after the first one. A negative one continues to the start of the next S, or in
+-- the last S to the Period's end.
 abbrev pub reach_of : Scale → End → ℤ → List SEntry → Reach
 reach_of scale end (pos r) later = Counted (r + 1)
 reach_of scale end (negsuc r) [] = reach_of_end end
 reach_of scale end (negsuc r) (next ∷ later) = reach_of_next scale next.t
 
--- how many segments it takes up to a time, rounded up
+-- how many segments it takes to reach a time, rounded up
 abbrev pub count_up_to : Time → Extent → ℕ
 count_up_to bound x = steps_to_cover (difference bound x.start) (lasting x)
 
@@ -50,14 +50,14 @@ count_of (UpTo bound) x = count_up_to bound x
 count_of Unending x = 0
 count_of Nowhere x = 0
 
--- what an S gives, by its first segment
+-- the members of an S, by its first segment
 abbrev pub members_of : Reach → Extent → List Member
 members_of (Counted count) x = map Closed (repeated count x)
 members_of (UpTo bound) x = if at_most bound x.start then Short x ∷ [] else map Closed (repeated (count_up_to bound x) x)
 members_of Unending x = Endless x ∷ []
 members_of Nowhere x = Short x ∷ []
 
--- what the S elements give, of which the first one, where it has no `@t`, begins at a media time
+-- the members of S elements, of which the first one, where it has no `@t`, begins at a media time
 abbrev pub members_from : Scale → End → ℕ → List SEntry → List Member
 members_from scale end former [] = []
 members_from scale end former (s ∷ later) =

@@ -1,4 +1,4 @@
-// Addresses of segments in one text after another.
+// URLs of segments, in one reused text.
 ghost use Rattle.std.specs.Prelude.{◌≡◌, IfOk, OnOk, string_bytes};
 ghost use Rattle.bridge_io.specs.Answer.{Gives};
 ghost use Rattle.timeline.specs.Listed.{CanBeNamed, part_of_timing, timing_of};
@@ -14,13 +14,13 @@ use std::alloc::Global;
 use std::marker::Model;
 use url_parts::Range;
 
-/// Writes the addresses of a Representation's segments, each in the place of the one before.
+/// Writes the URLs of a Representation's segments, each over the one before.
 ///
-/// In a contract it is the segments with their names, and the address that was written last.
+/// In a contract it is the segments with their names, and the URL that was written last.
 #[derive(Drop)]
 pub struct AddressWriter<'a> {
     runs: &'a Runs,
-    /// The names in their folder, where each is that of a file.
+    /// The names in their folder, where each is a valid file name.
     files: Option<Files>,
     text: String,
     maker: Maker,
@@ -48,7 +48,7 @@ impl<'a> AddressWriter<'a> {
         })
     }
 
-    /// Writes the address of a segment in the place of the last one, and tells its range. After a refusal the text may be any.
+    /// Writes the URL of a segment over the last one, and returns its byte range. After an error the text may be any.
     pub fn write(&mut self, alloc: Global, span: &Span) -> Result<Option<Range>, ListFault>
         requires { CanBeNamed self.old.timeline (timing_of span.now) }
         ensures part { Gives (part_with self.new.address) list_refusal result (part_of_timing self.old.timeline (timing_of span.now)) }
@@ -70,7 +70,7 @@ impl<'a> AddressWriter<'a> {
         }
     }
 
-    /// The address that was written last.
+    /// The URL that was written last.
     pub fn as_str(&self) -> &str
         ensures { result.now ≡ self.now.address }
     {
@@ -78,7 +78,7 @@ impl<'a> AddressWriter<'a> {
     }
 }
 
-/// Puts a text in the place of another one.
+/// Replaces a text by another one.
 fn write_text(text: &mut String, new: &str) -> Result<(), NoMemory>
     ensures { OnOk result (string_bytes text.new ≡ new.now) }
 {

@@ -1,13 +1,13 @@
-// A time against which the ends of segments are held.
+// A time that the ends of segments are compared with.
 ghost use Rattle.std.specs.Prelude.{◌≡◌, ◌≤◌, ◌<◌, ◌^◌, ◌*ℤ◌, pos, unsigned_abs};
 ghost use Rattle.std.specs.Int.{int_div_euclid};
 
 use exact_time::Tick;
 
-/// No segment ends this many nanoseconds after its Period's start, nor before it: 2^65 s, rounded up.
+/// No segment ends this many nanoseconds after or before its Period's start: 2^65 s, rounded up.
 const FARTHEST: i128 = 1 << 95;
 
-/// A time: a number of units, of which so many make a second.
+/// A time: `count` units, of which `unit` make a second.
 #[derive(Clone, Copy)]
 pub struct Bound {
     count: i128,
@@ -21,7 +21,7 @@ impl Bound {
     ghost use Rattle.timeline.specs.Bounds.{StandsFor, time_of_bound};
     ghost use Rattle.exact_time.specs.Time.{nanoseconds};
 
-    /// Nanoseconds. A time past every segment's end is brought nearer.
+    /// A time in nanoseconds. A time past every segment's end is clamped.
     pub fn nanos(count: i128) -> Bound
         ensures { StandsFor result (nanoseconds count) }
     {

@@ -1,4 +1,4 @@
-// The segments of a Representation while they are put in a row.
+// The segments of a Representation while they are collected.
 ghost use Rattle.std.specs.Prelude.{◌≡◌, ◌+◌, ◌-◌, ◌*◌, ◌<◌, ◌^◌, pos, ◌+ℤ◌, ◌<ℤ◌, [], ◌∷◌, ◌++◌, map, Some, IsNone, IfErr, OnOk};
 ghost use Rattle.std.specs.Prelude.{MatchResult};
 ghost use Rattle.exact_time.specs.Tick.{time_of};
@@ -54,7 +54,7 @@ impl RunsBuilder {
         }
     }
 
-    /// Upon the runs of a timeline.
+    /// Starts with the runs of a timeline.
     pub fn upon(alloc: Global, laid: Rc<LaidTimeline>, limits: Limits) -> RunsBuilder
         ensures laid { result.table.laid ≡ Some laid }
         ensures none { result.table.own.items ≡ [] }
@@ -84,7 +84,7 @@ impl RunsBuilder {
         self.former
     }
 
-    /// Whether names, where they are listed, are as many as the segments.
+    /// Whether there are as many listed names as segments, where names are listed.
     #[tactic(auto, using(crate::proofs::Laid::paired_closed))]
     pub fn is_paired(&self, names: Option<u64>) -> bool
         requires { IsLaidOut self.now }
@@ -96,7 +96,7 @@ impl RunsBuilder {
         }
     }
 
-    /// Adds segments of `step` ticks each, the first of which begins at a media time.
+    /// Adds `count` segments of `step` ticks each, the first of which begins at a media time.
     pub fn add(&mut self, start: u128, step: u64, count: u128) -> Result<(), TimeFault>
         requires start { start < 2 ^ 64 }
         requires lasting { 0 < step }
@@ -132,7 +132,7 @@ impl RunsBuilder {
         Ok(())
     }
 
-    /// Adds a segment that was judged.
+    /// Adds a segment that was checked.
     pub fn add_one(&mut self, start: Tick, end: Tick) -> Result<(), TimeFault>
         requires closed { IsNone self.old.endless }
         requires laid { IsLaidOut self.old }
@@ -152,8 +152,8 @@ impl RunsBuilder {
         Ok(())
     }
 
-    /// The run at the end of which a segment stands behind all others: the last one, which is taken off, where the segment
-    /// goes on as that one does, and otherwise a run of its own.
+    /// The run that a segment, after all others, ends: the last run, which is removed, where the segment continues it, and
+    /// otherwise a run of its own.
     fn last_with(&mut self, start: Tick, end: Tick) -> Run
         requires laid { IsLaidOut self.old }
         requires countable { self.old.total < 2 ^ 63 }
@@ -169,7 +169,7 @@ impl RunsBuilder {
         Run::one(start, end, self.total)
     }
 
-    /// Adds segments that go on without end.
+    /// Adds segments that repeat without end.
     pub fn go_on(&mut self, start: u128, step: u64) -> Result<(), TimeFault>
         requires start { start < 2 ^ 64 }
         requires lasting { 0 < step }
@@ -193,7 +193,7 @@ impl RunsBuilder {
         Ok(())
     }
 
-    /// Judges a segment on its limits and on its distance from the one before it.
+    /// Checks a segment's limits and its distance from the one before it.
     pub fn judge(&self, start: u128, step: u64) -> Result<(), TimeFault>
         requires start { start < 2 ^ 64 }
         requires near { self.now.former < 2 ^ 63 }
@@ -220,7 +220,7 @@ impl RunsBuilder {
     }
 }
 
-/// A media time, counted from the Period's start.
+/// A media time, relative to the Period's start.
 #[inline(always)]
 pub fn placed(media: u128, limits: Limits) -> Tick
     requires { media < 2 ^ 64 }

@@ -1,7 +1,7 @@
-// A place among the segments of a Representation.
+// An index into the segments of a Representation.
 use std::marker::Model;
 
-/// A place among the segments of a Representation. In a contract it is the number of segments before it.
+/// An index into the segments of a Representation. In a contract it is the number of segments before it.
 #[derive(Clone, Copy, PartialEq, Eq)]
 pub struct Cursor {
     place: u64,
@@ -20,7 +20,7 @@ impl Model for Cursor {
 impl Cursor {
     ghost use Rattle.std.specs.Prelude.{◌≡◌, ◌-◌};
 
-    /// The place so many segments before this one, at most the first one of all.
+    /// The index `count` segments before this one, but not before the first one.
     pub fn back(self, count: u64) -> Cursor
         ensures { result ≡ self - count }
     {

@@ -24,11 +24,11 @@ impl Runs {
 
     /// The segments of a Representation with `@duration` and without a SegmentTimeline (ISO/IEC 23009-1, 5.3.9.5.2).
     ///
-    /// A list has as many segments as names. With a template they go on up to the Period's end, which `live` allows to
-    /// be open; they are then those that end by an instant. The faults are tried in this order: TimeWithoutTimeline
-    /// where the template has `$Time$`; ZeroDuration where the duration is 0; NoEnd where the Period of a static MPD is
-    /// open and the names are a template; Range; ListLength where a list's last segment begins at or after the
-    /// Period's end.
+    /// A list has as many segments as names. With a template they continue to the Period's end, which may be open with
+    /// `live`; they are then those that end by the current time. The faults are tried in this order:
+    /// `TimeWithoutTimeline` where the template has `$Time$`; `ZeroDuration` where the duration is 0; `NoEnd` where the
+    /// Period of a static MPD is open and the names are a template; `Range`; `ListLength` where a list's last segment
+    /// begins at or after the Period's end.
     pub fn from_duration(
         alloc: Global,
         duration: u64,
@@ -53,7 +53,7 @@ impl Runs {
     }
 }
 
-/// Whether segments of a static MPD go on to the end of a Period that has none.
+/// Whether segments of a static MPD continue to the end of a Period that has none.
 fn lacks_end(end: &End, names: Option<u64>, live: bool) -> bool
     ensures { result ≡ lacks_end live end.now names }
 {
@@ -63,7 +63,7 @@ fn lacks_end(end: &End, names: Option<u64>, live: bool) -> bool
     }
 }
 
-/// The segments in a row, by the number of names where they are listed.
+/// The segments in order, by the number of names where they are listed.
 fn counted(
     alloc: Global,
     duration: u64,
@@ -149,7 +149,7 @@ fn add_until(
     add_last(builder, duration, length, ticks)
 }
 
-/// Adds a segment behind the others, which ends at the Period's end, where that is earlier.
+/// Adds a segment after the others. It ends at the Period's end, where that is earlier.
 fn add_last(
     builder: &mut RunsBuilder,
     duration: u64,
@@ -184,7 +184,7 @@ fn add_last(
     builder.add_one(start, end)
 }
 
-/// Whether a segment breaks the limits that begins at a media time and ends at the Period's end.
+/// Whether a segment that begins at a media time and ends at the Period's end breaks the limits.
 fn is_broken(length: Nanos, start: u128, ticks: u32) -> bool
     requires begins { start * 1000000000 < length * ticks }
     requires positive { 0 < ticks }

@@ -1,4 +1,4 @@
-// What an MPD says of the times of its segments.
+// How an MPD gives the times of its segments.
 ghost use Rattle.std.specs.Prelude.{◌<◌, ◌^◌};
 
 use crate::limits::Limits;
@@ -9,7 +9,7 @@ use exact_time::Nanos;
 pub enum End {
     /// After this length.
     At(Nanos),
-    /// Not yet known.
+    /// Not known yet.
     Unbounded,
 }
 

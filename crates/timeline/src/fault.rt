@@ -1,4 +1,4 @@
-// Why there is no expansion, or no address of a segment.
+// Why there are no segments, or no URL of a segment.
 use bridge_io::NoMemory;
 use std::alloc::{AllocError, AllocFailed};
 use thiserror::Error;
@@ -14,20 +14,20 @@ pub enum TimeFault {
     /// Period's start.
     #[error("a segment is too long or too late")]
     Range,
-    /// The segments of a static MPD go on to the end of a Period that has none.
+    /// The segments of a static MPD continue to the end of a Period that has none.
     #[error("the segments have no end")]
     NoEnd,
-    /// A gap or an overlap between two segments is larger than half the later one's duration, or segments go on up to
+    /// A gap or an overlap between two segments is larger than half the later one's duration, or segments continue to
     /// a time that isn't after their start.
     #[error("a gap or an overlap is too large")]
     Step,
-    /// There aren't as many segments as names.
+    /// The number of segments isn't that of the names.
     #[error("the segments and their names differ in number")]
     ListLength,
-    /// A template asks for a segment's media time where no timeline gives it.
+    /// A template uses `$Time$` without a SegmentTimeline.
     #[error("the template needs a timeline")]
     TimeWithoutTimeline,
-    /// Memory is wanting.
+    /// Out of memory.
     #[error("out of memory")]
     Memory,
 }
@@ -68,10 +68,10 @@ impl From<NoMemory> for TimeFault {
 /// Why a segment isn't made.
 #[derive(Clone, Copy, Debug, PartialEq, Eq, Error)]
 pub enum ListFault {
-    /// Its address is refused.
+    /// Its URL is rejected.
     #[error("the segment has no address")]
     Url(UrlFault),
-    /// Memory is wanting.
+    /// Out of memory.
     #[error("out of memory")]
     Memory,
 }

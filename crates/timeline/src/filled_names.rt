@@ -1,4 +1,4 @@
-// The names of a template's segments, with what they have in common worked out once.
+// The names of a template's segments, with their common part computed once.
 ghost use Rattle.std.specs.Prelude.{None, IfOk};
 ghost use Rattle.bridge_io.specs.Answer.{Gives};
 ghost use Rattle.template_ids.specs.Filled.{name_of, rest_of};
@@ -16,8 +16,8 @@ use url_parts::{Base, Part};
 #[derive(Drop)]
 pub struct FilledNames {
     names: Filled,
-    /// The base against which what stands behind the names' front is resolved. Where there is none, whole names are resolved
-    /// against the Representation's base.
+    /// The base against which the names without their common prefix are resolved. Where it is `None`, whole names are
+    /// resolved against the Representation's base.
     beneath: Option<Base>,
 }
 
@@ -37,7 +37,7 @@ impl FilledNames {
         Ok(FilledNames { names, beneath })
     }
 
-    /// The address of the segment with a number, which begins at a media time.
+    /// The URL of the segment with a number and a start in media time.
     #[tactic(auto, using(crate::proofs::Beneath::resolved_alike))]
     pub fn part(
         &self,
@@ -56,7 +56,8 @@ impl FilledNames {
     }
 }
 
-/// The base against which what stands behind the front of names is resolved as whole names are against another base.
+/// A base for the names without their common prefix: resolved against it they give what whole names give against the
+/// other base.
 fn beneath(alloc: Global, names: &Filled, base: &Base) -> Result<Option<Base>, NoMemory>
     ensures { IfOk result (GoesOnBeneath base.now names.now) }
 {
@@ -69,7 +70,7 @@ fn beneath(alloc: Global, names: &Filled, base: &Base) -> Result<Option<Base>, N
     }
 }
 
-/// The address of a name, which is written right behind the base's folder.
+/// The URL of a whole name, which is appended to the base's folder.
 fn whole_part(
     alloc: Global,
     names: &Filled,
@@ -88,7 +89,7 @@ fn whole_part(
     })
 }
 
-/// The same of what stands behind a name's front.
+/// The same for a name without the common prefix.
 fn rest_part(
     alloc: Global,
     names: &Filled,

@@ -6,16 +6,16 @@ ghost use Rattle.timeline.specs.OwnParts.{TimelinesHaveParts};
 ghost use Rattle.timeline.specs.OpenEnds.{TimelinesEnd, DurationsEnd, ListsEnd, EndedIsReached, StepsAreGreatest, UntilTells};
 ghost use Rattle.timeline.specs.Starts.{TimelinesInTicks, DurationsInTicks, ListsInTicks};
 
-/// Each segment of an expansion ends after the one before it, where no segment lasts no time, none is apart from the
-/// one before it, and none begins at or after a time that it is cut at.
+/// Each segment ends after the one before it, where no segment has duration 0, none is apart from the one before it,
+/// and none begins at or after a time where it is cut.
 pub fn ends_rise()
     ensures timelines { TimelinesRise }
     ensures durations { DurationsRise }
     ensures lists { ListsRise }
 {}
 
-/// What a constructor of `Runs` gives for a static MPD, for a Period whose end is known, or for listed names isn't open.
-/// What isn't open meets the conditions of every window. Whether a window meets them its `until` alone tells.
+/// The result of a constructor of `Runs` isn't open for a static MPD, for a Period whose end is known, or for listed
+/// names. What isn't open meets the conditions of every window. Whether a window meets them depends only on its `until`.
 pub fn closed_ends()
     ensures timelines { TimelinesEnd }
     ensures durations { DurationsEnd }
@@ -25,21 +25,21 @@ pub fn closed_ends()
 {}
 
 /// Each listed segment begins at a whole tick of its timeline, as `Runs::offset` does; only the end of a last segment that is
-/// cut at the Period's end may have another scale. Of given times this is so where they are in the timeline's ticks.
+/// cut at the Period's end may have another scale. For given times this holds where they are in the timeline's ticks.
 pub fn starts_in_ticks()
     ensures timelines { TimelinesInTicks }
     ensures durations { DurationsInTicks }
     ensures lists { ListsInTicks }
 {}
 
-/// Of the segments that go on to an open end, as many are there by an instant as end by it.
+/// Of the segments that continue to an open end, those exist at a time that end by it.
 #[tactic(auto, using(crate::proofs::OpenEnds::steps_are_greatest))]
 pub fn open_ends()
     ensures { StepsAreGreatest }
 {}
 
-/// Where names are addresses already (`Names::of_addresses`), each listed segment has its own: the segment numbered by the
-/// first number and k has address k of the list. These are the addresses that references to them give against any base.
+/// Where names are URLs already (`Names::of_addresses`), each listed segment has its own: the segment whose number is the
+/// first number plus k has URL k of the list. References to these URLs give the same URLs against any base.
 pub fn own_addresses()
     ensures numbered { AreNumbered }
     ensures timelines { TimelinesHaveParts }
@@ -48,7 +48,7 @@ pub fn own_addresses()
     ensures given_again { AreGivenAgain }
 {}
 
-/// `Listing::next` makes a segment that has its own address with that one, and refuses it for want of memory alone.
+/// `Listing::next` makes a segment that has its own URL with that one, and fails only where memory runs out.
 #[tactic(auto, using(crate::proofs::OwnParts::parts_are_made, crate::proofs::OwnParts::only_memory_holds))]
 pub fn own_addresses_made()
     ensures made { PartsAreMade }

@@ -1,7 +1,7 @@
-//! Segments in order: when each one begins and ends, and which number and address it has.
+//! Segments in order: the start, the end, the number and the URL of each one.
 //!
-//! The segments of a Representation are kept as runs of equal segments, and never one by one: a
-//! place among them is found by dividing, and a walk goes on from a place by adding.
+//! The segments of a Representation are stored as runs of equal segments, never one by one: a position among them is
+//! found by division, and a walk from a position only adds.
 #![tactic(auto)]
 
 mod address_writer;
@@ -51,5 +51,5 @@ pub use window::Window;
 /// Times of segments.
 pub type SpanList = Sequence<Span>;
 
-/// The addresses of segments, with their ranges.
+/// The URLs of segments, with their byte ranges.
 pub type PartList = Sequence<Part>;

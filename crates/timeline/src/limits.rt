@@ -1,16 +1,16 @@
-// How far and how long segments may be.
+// Limits of segments: the latest end and the longest duration.
 ghost use Rattle.std.specs.Prelude.{◌≡◌, ◌<◌, ◌≤◌, ◌+◌, ◌*◌, ◌^◌};
 
-/// The media time, in ticks, before which segments end.
+/// The media time, in ticks, before which all segments end.
 const END: u128 = 1 << 63;
 
-/// How many seconds a segment lasts at most.
+/// The longest duration of a segment, in seconds.
 pub const LONGEST: u64 = 1_000_000;
 
-/// How many seconds after its Period's start a segment ends at most.
+/// The latest end of a segment, in seconds after its Period's start.
 pub const FARTHEST: u64 = 100_000_000_000;
 
-/// The limits of segments that are counted in ticks.
+/// The limits of segments with times in ticks.
 #[derive(Clone, Copy)]
 pub struct Limits {
     /// How many ticks make a second.
@@ -21,7 +21,7 @@ pub struct Limits {
 }
 
 impl Limits {
-    /// The limits of no segment.
+    /// Placeholder limits, for no segment.
     pub const NONE: Limits = Limits {
         ticks: 1,
         origin: 0,
@@ -30,7 +30,7 @@ impl Limits {
     ghost use Rattle.timeline.specs.Limits.{media_extent, breaks_limits};
     ghost use Rattle.timeline.specs.MediaTimelines.{are_passed};
 
-    /// Whether a segment breaks the limits that ends at this media time and lasts so many ticks.
+    /// Whether a segment that ends at this media time and lasts `step` ticks breaks the limits.
     pub fn are_broken(&self, end: u128, step: u64) -> bool
         requires { step ≤ end }
         ensures { result ≡ breaks_limits self.now.ticks self.now.origin (media_extent self.now end step) }
@@ -40,8 +40,8 @@ impl Limits {
         END <= end || ticks * u128::from(LONGEST) < u128::from(step) || farthest < end
     }
 
-    /// Whether some segment breaks the limits where the longest one lasts so many ticks, and the last one, which ends
-    /// latest, ends at this media time before 2^63.
+    /// Whether some segment breaks the limits, where the longest one lasts `longest` ticks, and the last one, which
+    /// ends latest, ends at media time `end`, before 2^63.
     pub fn are_passed(&self, longest: u64, end: u64) -> bool
         ensures { result ≡ are_passed self.now longest end }
     {

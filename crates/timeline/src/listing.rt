@@ -12,7 +12,7 @@ use std::alloc::Global;
 use std::marker::Model;
 use url_parts::{Address, Part, Range};
 
-/// A segment: its address, its range and its times. Only a `Listing` makes one.
+/// A segment: its URL, its byte range and its times. Only a `Listing` makes one.
 #[derive(Drop)]
 pub struct Segment {
     part: Part,
@@ -30,21 +30,21 @@ impl Model for Segment {
 impl Segment {
     ghost use Rattle.timeline.specs.Listed.{timing_of};
 
-    /// Where it lies.
+    /// Its URL.
     pub fn address(&self) -> &Address
         ensures { result.now ≡ self.now.part.address }
     {
         &self.part.address
     }
 
-    /// Which bytes of the file it is; all of them where there is none.
+    /// Its byte range in the file; `None` is the whole file.
     pub fn range(&self) -> Option<Range>
         ensures { result ≡ self.now.part.range }
     {
         self.part.range
     }
 
-    /// Where it lies, and which bytes of the file it is, in the place of the segment.
+    /// Its URL and byte range. Consumes the segment.
     pub fn into_part(self) -> Part
         ensures { result ≡ self.part }
     {
@@ -60,7 +60,7 @@ impl Segment {
     }
 }
 
-/// The segments of a Representation in order, each made when it is asked for.
+/// An iterator over the segments of a Representation in order.
 ///
 /// In a contract it is the segments with their names, and the times of those that are left.
 #[derive(Drop)]
@@ -101,8 +101,8 @@ impl<'a> Listing<'a> {
         }
     }
 
-    /// Makes the next segment, and counts it. There is none exactly at the end. After a refusal the listing stands
-    /// before the same segment, and nothing is counted.
+    /// Makes the next segment, and counts it; `None` exactly at the end. After an error the position is still before
+    /// the same segment, and nothing is counted.
     #[inline(always)]
     pub fn next<L: Ledger>(
         &mut self,
@@ -123,7 +123,7 @@ impl<'a> Listing<'a> {
         Ok(Some(Segment { part, span }))
     }
 
-    /// Goes behind the next segment without its address, and counts it. There is none exactly at the end.
+    /// Skips the next segment without making its URL, and counts it; `None` exactly at the end.
     #[inline(always)]
     pub fn pass<L: Ledger>(&mut self, steps: &mut Steps<L>) -> Option<Span>
         ensures segment { MatchOption result (IsDone self.old self.new) (λ span. IsPassed self.old (timing_of span) self.new) }
@@ -135,7 +135,7 @@ impl<'a> Listing<'a> {
         Some(span)
     }
 
-    /// Whether each segment's name is that of a file in one folder, so that no address is refused.
+    /// Whether each segment's name is a valid file name in one folder, so that no URL is rejected.
     pub fn are_files(&self, alloc: Global) -> Result<bool, NoMemory>
         ensures told { IfOk result (λ files. files ≡ are_files self.now.timeline.names) }
         ensures named { IfOk result (λ files. files ≡ true → AreInFolder self.now.timeline.names) }
@@ -144,7 +144,7 @@ impl<'a> Listing<'a> {
         runs.names.are_files(alloc)
     }
 
-    /// What writes the addresses of the segments.
+    /// A writer of the segments' URLs.
     pub fn addresses(&self, alloc: Global) -> Result<AddressWriter<'a>, NoMemory>
         ensures { IfOk result (λ addresses. addresses.timeline ≡ self.now.timeline) }
     {
@@ -152,7 +152,7 @@ impl<'a> Listing<'a> {
     }
 }
 
-/// The address and range of a segment.
+/// The URL and byte range of a segment.
 #[inline(always)]
 pub(crate) fn part_of(
     runs: &Runs,

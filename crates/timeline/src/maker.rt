@@ -1,9 +1,9 @@
-// Addresses of segments, made one after another.
+// URLs of segments, made one after another.
 use crate::filled_names::FilledNames;
 use url_parts::Resolver;
 
-/// Makes the addresses of a Representation's segments. What the names of a template have in common is worked out at the first
-/// segment, and the folder of an absolute name before is kept, so that one in it isn't parsed.
+/// Makes the URLs of a Representation's segments. The common part of a template's names is computed at the first segment, and
+/// the folder of an earlier absolute name is cached, so that a name in it isn't parsed.
 #[derive(Drop)]
 pub struct Maker {
     pub resolver: Resolver,

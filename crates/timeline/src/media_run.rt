@@ -5,8 +5,8 @@ use crate::builder::placed;
 use crate::limits::Limits;
 use crate::run::Run;
 
-/// Segments of equal duration in media ticks, each beginning where the one before it ends. How many ticks make a second
-/// isn't told, so that Representations of different timescales share them.
+/// Segments of equal duration in media ticks, each beginning where the one before it ends. The timescale isn't stored,
+/// so that Representations of different timescales share them.
 #[derive(Clone, Copy)]
 pub struct MediaRun {
     /// The media time at which the first one begins.
@@ -15,7 +15,7 @@ pub struct MediaRun {
     pub step: u64,
     /// How many there are.
     pub count: u64,
-    /// How many segments stand before them.
+    /// How many segments are before them.
     pub before: u64,
     pub ghost near: { start + step < 2 ^ 64 },
 }
@@ -23,7 +23,7 @@ pub struct MediaRun {
 impl MediaRun {
     ghost use Rattle.timeline.specs.RunSegments.{placed_run, timed};
 
-    /// The run with its times from the Period's start.
+    /// The run with times relative to the Period's start.
     #[inline(always)]
     pub fn at(&self, limits: Limits) -> Run
         ensures { timed result ≡ placed_run limits.ticks limits.origin self.now }

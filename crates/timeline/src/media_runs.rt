@@ -1,4 +1,4 @@
-// The runs of S elements in media time.
+// Runs of S elements in media time.
 ghost use Rattle.std.specs.Prelude.{◌≡◌, ◌≤◌, ◌<◌, ◌^◌, [], ◌*◌, ◌+◌, false, IfOk, OnOk, MatchOption};
 
 use crate::limits::Limits;
@@ -37,7 +37,7 @@ impl MediaRuns {
         }
     }
 
-    /// The runs of the first S elements, up to one that has none for every timescale.
+    /// The runs of the leading S elements, up to one that has no run common to all timescales.
     pub fn of(alloc: Global, entries: &[SEntry]) -> Result<MediaRuns, NoMemory>
         ensures { IfOk result (λ media. IsMedia entries.now media) }
     {
@@ -60,7 +60,7 @@ impl MediaRuns {
         limits.are_passed(self.longest, self.former)
     }
 
-    /// The run of an S, which others follow, unless it has none for every timescale.
+    /// The run of an S, followed by others, where it has one common to all timescales.
     fn next_run(&self, entry: &SEntry, later: &[SEntry]) -> Option<MediaRun>
         requires room { self.now.total ≤ self.now.former }
         requires near { self.now.former < 2 ^ 63 }
@@ -123,7 +123,7 @@ fn ends_late(start: u64, lasts: u128) -> bool
     u128::from(start).saturating_add(lasts) >= 1 << 63
 }
 
-/// Some timescale: how many segments an S has depends on it only where it goes on up to the Period's end.
+/// Any timescale: the number of segments of an S depends on it only where the S continues to the Period's end.
 fn any_scale() -> Scale {
     Scale {
         ticks: 1,

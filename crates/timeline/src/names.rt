@@ -1,4 +1,4 @@
-// The names of segments, against which addresses are made.
+// The names of segments, and the URLs that they give.
 ghost use Rattle.std.specs.Prelude.{◌≡◌, IfOk, IfSome, None, true};
 ghost use Rattle.std.specs.Option.{option_copied};
 ghost use Rattle.bridge_io.specs.Answer.{Gives};
@@ -16,8 +16,8 @@ use std::alloc::Global;
 use template_ids::{BorrowedIds, Filled, Template};
 use url_parts::{Base, Part, Range, Resolver, UrlFault};
 
-/// The most bytes that a base has of which each file in its folder has an address: the longest name of a file has 255, and
-/// the longest address 2,048.
+/// The longest base, in bytes, where every file name in its folder gives a URL: the longest file name has 255 bytes, and
+/// the longest URL 2,048.
 const MAX_BASE_LEN: usize = 1793;
 
 /// The names of a Representation's segments, and the base against which they are resolved.
@@ -35,12 +35,12 @@ pub enum Names {
         parts: RefList,
         base: Base,
     },
-    /// One name for each segment, in a list that others share.
+    /// One name for each segment, in a shared list.
     Shared {
         parts: SharedNames,
         base: Base,
     },
-    /// One address for each segment.
+    /// One URL for each segment.
     Addresses {
         parts: PartList,
     },
@@ -77,14 +77,14 @@ impl Names {
         Names::List { parts, base }
     }
 
-    /// Names by a list that others share. They are those of `of_list`.
+    /// Names by a shared list. They are those of `of_list`.
     pub fn of_shared(parts: SharedNames, base: Base) -> Names
         ensures { result ≡ ByShared parts base }
     {
         Names::Shared { parts, base }
     }
 
-    /// Addresses that need no base. A segment is made with a copy of its own, and nothing is parsed.
+    /// URLs, without a base. A segment is made with a copy of its own, and nothing is parsed.
     pub fn of_addresses(parts: PartList) -> Names
         ensures { result ≡ ByAddresses parts }
     {
@@ -103,7 +103,7 @@ impl Names {
         }
     }
 
-    /// Whether a template asks for a segment's media time.
+    /// Whether a template uses `$Time$`.
     pub(crate) fn uses_time(&self) -> bool
         ensures { result ≡ asks_for_time self.now }
     {
@@ -113,7 +113,7 @@ impl Names {
         }
     }
 
-    /// Whether the name is that of a file in the base's folder for each number and time, so that no address is refused.
+    /// Whether the name is a valid file name in the base's folder for each number and time, so that no URL is rejected.
     pub(crate) fn are_files(&self, alloc: Global) -> Result<bool, NoMemory>
         ensures told { IfOk result (λ files. files ≡ are_files self.now) }
         ensures named { IfOk result (λ files. files ≡ true → AreInFolder self.now) }
@@ -132,7 +132,7 @@ impl Names {
         }
     }
 
-    /// The names in their folder, where each is that of a file.
+    /// The names in their folder, where each is a valid file name.
     pub(crate) fn files(&self, alloc: Global) -> Result<Option<Files>, NoMemory>
         ensures { IfOk result (λ files. IfSome files (AreFilesOf self.now)) }
     {
@@ -154,7 +154,7 @@ impl Names {
         }
     }
 
-    /// The address and range of the segment at a place, which begins at a media time.
+    /// The URL and byte range of the segment at an index, with a number and a start in media time.
     pub(crate) fn part(
         &self,
         alloc: Global,
@@ -199,7 +199,7 @@ impl Names {
     }
 }
 
-/// The address of a segment by a template. What the names have in common is kept for the next one.
+/// The URL of a segment by a template. The common part of the names is kept for the next one.
 fn named_part(
     alloc: Global,
     maker: &mut Maker,
@@ -217,7 +217,7 @@ fn named_part(
     part
 }
 
-/// The names of a template, which are worked out where they aren't yet.
+/// The names of a template, computed unless they already are.
 fn filled_once(
     alloc: Global,
     filled: Option<FilledNames>,
@@ -234,7 +234,7 @@ fn filled_once(
     }
 }
 
-/// The address and range of a segment by its name.
+/// The URL and byte range of a segment by its name.
 #[tactic(auto, using(crate::proofs::Naming::resolve_own))]
 fn listed_part(
     alloc: Global,
@@ -253,7 +253,7 @@ fn listed_part(
     }
 }
 
-/// The address and range of a segment that has them already.
+/// The URL and byte range of a segment that has them already.
 fn own_part(alloc: Global, part: Option<&Part>) -> Result<Part, ListFault>
     ensures { Gives (λ part. part) list_refusal result (own_part (option_copied part.entry)) }
 {
@@ -263,7 +263,7 @@ fn own_part(alloc: Global, part: Option<&Part>) -> Result<Part, ListFault>
     }
 }
 
-/// The address that a reference gives against a base, with a range.
+/// The URL that a reference resolves to against a base, with a byte range.
 #[tactic(auto, using(crate::proofs::Naming::gives_refusal))]
 fn joined(
     alloc: Global,

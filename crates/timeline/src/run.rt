@@ -17,7 +17,7 @@ pub struct Run {
     pub step: u64,
     /// How many there are.
     pub count: u64,
-    /// How many segments stand before them.
+    /// How many segments are before them.
     pub before: u64,
 }
 
@@ -42,7 +42,7 @@ impl Run {
         }
     }
 
-    /// The segments with one more behind them, where that one begins at their end and is as long as each of them, in ticks
+    /// The segments with one more after them, where that one begins at their end and is as long as each of them, in ticks
     /// of one scale.
     pub fn longer(self, start: Tick, end: Tick) -> Option<Run>
         requires is { IsRun (timed self) }
@@ -86,7 +86,7 @@ impl Run {
         ended.min(u128::from(self.count)) as u64
     }
 
-    /// The segments from a place on.
+    /// The segments from an index on.
     pub fn from(self, place: u64) -> Run
         requires is { IsRun (timed self) }
         requires low { self.before ≤ place }
@@ -107,7 +107,7 @@ impl Run {
         }
     }
 
-    /// The segments behind the first one, where there are any.
+    /// The segments after the first one, where there are any.
     pub fn behind_first(self) -> Option<Run>
         requires { IsRun (timed self) }
         ensures { MatchOption result (self.count ≤ 1) (λ rest. IsRestOf (timed self) (self.before + 1) (timed rest)) }
@@ -125,12 +125,12 @@ impl Run {
     }
 }
 
-/// Segments of equal duration that go on without end.
+/// Segments of equal duration that repeat without end.
 #[derive(Clone, Copy)]
 pub struct Endless {
     pub start: Tick,
     pub step: u64,
-    /// How many segments stand before them.
+    /// How many segments are before them.
     pub before: u64,
 }
 
@@ -152,8 +152,7 @@ impl Endless {
         last.abs_diff(self.start.n) / u128::from(self.step)
     }
 
-    /// The media time at which the first segments end that are so many, where the Period's start has the media time
-    /// `origin`.
+    /// The media time at which the first `count` segments end, where the Period's start has the media time `origin`.
     pub fn media_end(&self, count: u128, origin: u64) -> u128
         requires placed { pos 0 ≤ℤ (self.now.start.n +ℤ pos origin) }
         requires reached { count * self.now.step < 2 ^ 127 + 2 ^ 64 }
@@ -184,15 +183,14 @@ impl Endless {
     }
 }
 
-/// Whether two times are as many ticks of one scale.
+/// Whether two times have the same ticks and scale.
 fn is_same(first: Tick, second: Tick) -> bool
     ensures { result ≡ true ↔ time_of first ≡ time_of second }
 {
     first.n == second.n && first.scale == second.scale
 }
 
-/// How many ticks it is from a segment's start to its end, where one more segment as long as it has room behind it, and
-/// otherwise 1.
+/// The ticks from a segment's start to its end, where one more segment of that length fits after it, and otherwise 1.
 fn ticks_between(start: Tick, end: Tick) -> u64
     requires { end.n <ℤ pos (2 ^ 64 - 1) }
     ensures lasting { 0 < result }

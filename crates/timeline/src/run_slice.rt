@@ -1,22 +1,22 @@
-// What is left of a table of runs.
+// The rest of a table of runs.
 use crate::bound::Bound;
 use crate::limits::Limits;
 use crate::media_run::MediaRun;
 use crate::run::Run;
 
-/// Runs in order: first some in media time, and then some with times of their own.
+/// Runs in order: first those in media time, then those with times of their own.
 #[derive(Clone, Copy)]
 pub struct RunSlice<'a> {
     media: &'a [MediaRun],
-    /// How the times of the former are counted.
+    /// The scale of the runs in media time.
     limits: Limits,
     own: &'a [Run],
 }
 
-/// What runs are sought by.
+/// What runs are searched by.
 #[derive(Clone, Copy)]
 pub enum Test {
-    /// All segments of the run stand before this place.
+    /// All segments of the run are before this index.
     EndsBy(u64),
     /// The first segment of the run ends at or before this bound.
     BeginsBy(Bound),
@@ -57,7 +57,7 @@ impl<'a> RunSlice<'a> {
         self.media.len() + self.own.len()
     }
 
-    /// The run at a place.
+    /// The run at an index.
     #[inline(always)]
     pub fn get(&self, place: usize) -> Run
         requires { place < length (slice_runs self.now) }
@@ -69,7 +69,7 @@ impl<'a> RunSlice<'a> {
         }
     }
 
-    /// The runs behind the first ones.
+    /// The runs after the first `count`.
     #[inline(always)]
     #[tactic(auto, using(crate::proofs::WalkLemmas::skip_front, crate::proofs::WalkLemmas::skip_all))]
     pub fn skip(&self, count: usize) -> RunSlice<'a>
@@ -90,7 +90,7 @@ impl<'a> RunSlice<'a> {
         }
     }
 
-    /// The first run, and those behind it.
+    /// The first run, and those after it.
     #[inline(always)]
     pub fn split_first(&self) -> Option<(Run, RunSlice<'a>)>
         ensures { MatchOption result (slice_runs self.now ≡ []) (λ parts. slice_runs self.now ≡ timed parts.0 ∷ slice_runs parts.1) }
@@ -101,7 +101,7 @@ impl<'a> RunSlice<'a> {
         Some((self.get(0), self.skip(1)))
     }
 
-    /// How many of the first runs pass a test, which no run passes behind one that doesn't.
+    /// How many leading runs pass a test that no run passes after one that doesn't.
     pub fn count_front(&self, test: Test) -> usize
         requires { IsPartitionedBy (passes test) (slice_runs self.now) }
         ensures within { result ≤ length (slice_runs self.now) }
@@ -115,7 +115,7 @@ impl<'a> RunSlice<'a> {
         low
     }
 
-    /// Halves the runs among which the first one stands that doesn't pass.
+    /// Halves the range that contains the first run that doesn't pass.
     fn halve(&self, test: Test, low: usize, high: usize) -> (usize, usize)
         requires sorted { IsPartitionedBy (passes test) (slice_runs self.now) }
         requires narrowed { IsNarrowed test (slice_runs self.now) low high }

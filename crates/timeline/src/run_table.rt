@@ -5,7 +5,7 @@ use crate::run_slice::RunSlice;
 use crate::shared_timeline::LaidTimeline;
 use std::rc::Rc;
 
-/// The runs of a Representation: those of a timeline that it shares with others, and behind them its own.
+/// The runs of a Representation: those of a shared timeline, and after them its own.
 #[derive(Drop)]
 pub struct RunTable {
     pub laid: Option<Rc<LaidTimeline>>,
@@ -16,7 +16,7 @@ impl RunTable {
     ghost use Rattle.std.specs.Prelude.{◌≡◌};
     ghost use Rattle.timeline.specs.RunTables.{runs_at, slice_runs};
 
-    /// The runs, counted by a scale from the media time of the Period's start.
+    /// The runs in a scale, relative to the media time of the Period's start.
     pub fn as_slice(&self, scale: Scale, origin: u64) -> RunSlice<'_>
         ensures { slice_runs result ≡ runs_at scale.ticks origin self.now }
     {

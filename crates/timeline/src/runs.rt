@@ -12,11 +12,11 @@ use std::marker::Model;
 
 /// The segments of a Representation in one Period, with their names.
 ///
-/// In a contract it is what its segments are at every instant, their numbers and their names.
+/// In a contract it is what its segments are at every time, their numbers and their names.
 #[derive(Drop)]
 pub struct Runs {
     pub(crate) table: RunTable,
-    /// The segments behind them that go on to an open end.
+    /// The segments after them that continue to an open end.
     pub(crate) endless: Option<Endless>,
     /// How many segments the runs have.
     pub(crate) total: u64,
@@ -54,15 +54,15 @@ impl Runs {
     ghost use Rattle.timeline.specs.Ratios.{natural};
     ghost use Rattle.timeline.specs.RunSegments.{IsTail, extents_of_some, timed};
 
-    /// How many segments are listed in a window. It is Range exactly where segments that go on to an open end reach
-    /// one, by the window's `until`, that breaks the limits of a segment. It takes no memory.
+    /// How many segments are listed in a window. The error is `Range`, exactly where segments that continue to an
+    /// open end reach one, by the window's `until`, that breaks the limits of a segment. It allocates nothing.
     ///
     /// Requires that `until` is given where the Period's end is open.
     pub fn count(&self, window: &Window) -> Result<u64, TimeFault>
         requires { IsWindowOf self.now window.now }
         ensures { result ≡ answered_count self.now window.now }
     {
-        let _ = &self.table; // opens the value, for what it keeps
+        let _ = &self.table; // opens the value, for its invariant
         if self.is_broken(window) {
             return Err(TimeFault::Range);
         }
@@ -70,29 +70,31 @@ impl Runs {
         Ok(finish.saturating_sub(self.place(window.low())))
     }
 
-    /// Whether the segments go on to an end that isn't known yet. Then a window needs its `until`. It takes no memory.
+    /// Whether the segments continue to an end that isn't known yet. Then a window needs its `until`. It allocates
+    /// nothing.
     pub fn is_open(&self) -> bool
         ensures { result ≡ is_open self.now.members }
     {
         self.endless.is_some()
     }
 
-    /// `@presentationTimeOffset` in seconds (ISO/IEC 23009-1, 5.3.9.2), the media time of the Period's start. It takes no
-    /// memory.
+    /// `@presentationTimeOffset` in seconds (ISO/IEC 23009-1, 5.3.9.2), the media time of the Period's start. It
+    /// allocates nothing.
     pub fn offset(&self) -> Tick
         ensures { time_of result ≡ offset_of self.now }
     {
-        let _ = &self.table; // opens the value, for what it keeps
+        let _ = &self.table; // opens the value, for its invariant
         Tick {
             n: i128::from(self.scale.offset),
             scale: self.scale.ticks,
         }
     }
 
-    /// The place of the first listed segment: it is behind all segments that end by the Period's start or by the
-    /// window's `after`, and before all others, also before those that only a later `until` lists. It takes no memory.
+    /// The index of the first listed segment: it is after all segments that end by the Period's start or by the
+    /// window's `after`, and before all others, also before those that only a later `until` lists. It allocates
+    /// nothing.
     ///
-    /// Requires that `until` is given where the Period's end is open, and that `count` doesn't answer Range.
+    /// Requires that `until` is given where the Period's end is open, and that `count` doesn't return `Range`.
     pub fn seek(&self, window: &Window) -> Cursor
         requires window { IsWindowOf self.now window.now }
         requires reached { IsReached self.now window.now }
@@ -100,39 +102,39 @@ impl Runs {
         ensures place { (other : Window) → IsWindowOf self.now other → IsReached self.now other →
             IsPlaceAfter (low_of window.now) (expansion self.now other) result }
     {
-        let _ = &self.table; // opens the value, for what it keeps
+        let _ = &self.table; // opens the value, for its invariant
         Cursor::at(self.place(window.low()))
     }
 
-    /// The place of the first segment that ends after a time, counted from the Period's start. All segments before it end
-    /// by that time, and all from it on end later. Where there are none of these, the place is that of the expansion's end
-    /// or behind it. Where the end is open, this is so for every window for
-    /// which `count` doesn't answer Range. It takes no memory.
+    /// The index of the first segment that ends after a time, relative to the Period's start. All segments before it end
+    /// by that time, and all from it on end later. Where there are none of these, the index is that of the end or after
+    /// it. Where the end is open, this holds for every window for which `count` doesn't return `Range`. It allocates
+    /// nothing.
     pub fn seek_end(&self, end: Tick) -> Cursor
         ensures { (window : Window) → IsWindowOf self.now window → IsReached self.now window →
             IsPlaceAfter (time_of end) (expansion self.now window) result }
     {
-        let _ = &self.table; // opens the value, for what it keeps
+        let _ = &self.table; // opens the value, for its invariant
         Cursor::at(self.place(Bound::tick(end)))
     }
 
-    /// How many segments are listed from a place on. It divides, however many they are, and takes no memory.
+    /// How many segments are listed from an index on. It divides, however many they are, and allocates nothing.
     ///
-    /// Requires that `until` is given where the Period's end is open, and that `count` doesn't answer Range.
+    /// Requires that `until` is given where the Period's end is open, and that `count` doesn't return `Range`.
     pub fn count_from(&self, from: &Cursor, window: &Window) -> u64
         requires window { IsWindowOf self.now window.now }
         requires reached { IsReached self.now window.now }
         ensures { result ≡ length (listed_from from.now self.now window.now) }
     {
-        let _ = &self.table; // opens the value, for what it keeps
+        let _ = &self.table; // opens the value, for its invariant
         let begin = from.place().max(self.place(window.low()));
         self.finish(window).saturating_sub(begin)
     }
 
-    /// The times and numbers of the listed segments from a place on. Their ends may be given to a `Rounder` that begins
-    /// at the first one's start. It takes no memory.
+    /// The times and numbers of the listed segments from an index on. Their ends are valid arguments for a `Rounder`
+    /// that begins at the first one's start. It allocates nothing.
     ///
-    /// Requires that `until` is given where the Period's end is open, and that `count` doesn't answer Range.
+    /// Requires that `until` is given where the Period's end is open, and that `count` doesn't return `Range`.
     pub fn walk(&self, from: &Cursor, window: &Window) -> TimeWalk<'_>
         requires window { IsWindowOf self.now window.now }
         requires reached { IsReached self.now window.now }
@@ -152,9 +154,9 @@ impl Runs {
         )
     }
 
-    /// The listed segments from a place on, each with its address. It takes no memory.
+    /// The listed segments from an index on, each with its URL. It allocates nothing.
     ///
-    /// Requires that `until` is given where the Period's end is open, and that `count` doesn't answer Range.
+    /// Requires that `until` is given where the Period's end is open, and that `count` doesn't return `Range`.
     pub fn resume(&self, from: &Cursor, window: &Window) -> Listing<'_>
         requires window { IsWindowOf self.now window.now }
         requires reached { IsReached self.now window.now }
@@ -163,7 +165,7 @@ impl Runs {
         ensures limits { All IsWithinLimits result.left }
         ensures timeline { result.timeline ≡ self.now }
     {
-        let _ = &self.table; // opens the value, for what it keeps
+        let _ = &self.table; // opens the value, for its invariant
         Listing::over(self, self.walk(from, window))
     }
 
@@ -203,7 +205,7 @@ impl Runs {
         Ok(Runs::of(builder, scale, origin, names))
     }
 
-    /// The segment's media time, for a template that asks for it.
+    /// The segment's media time, for `$Time$`.
     pub(crate) fn media_time(&self, start: Tick) -> u64
         requires { natural (start.n +ℤ pos self.now.origin) < 2 ^ 64 }
         ensures { result ≡ natural (start.n +ℤ pos self.now.origin) }
@@ -211,8 +213,8 @@ impl Runs {
         u64::try_from(start.n + i128::from(self.origin)).unwrap_or(0)
     }
 
-    /// How many segments end at or before a bound, those that go on to an open end among them, but for more than can
-    /// ever be listed.
+    /// How many segments end at or before a bound, including those that continue to an open end, capped at the most
+    /// that can ever be listed.
     fn place(&self, bound: Bound) -> u64
         ensures { result ≡ min (2 ^ 64 - 1) (reached_count self.now (time_of_bound bound)) }
     {
@@ -231,7 +233,7 @@ impl Runs {
         }
     }
 
-    /// The last run of which a segment ends at or before a bound. As ends rise, all before it do too.
+    /// The last run with a segment that ends at or before a bound. As ends rise, all runs before it have one, too.
     fn last_begun(&self, bound: Bound) -> Option<Run>
         ensures { MatchOption result (closed_count self.now (time_of_bound bound) ≡ 0)
             (λ s. IsLastBegun self.now (time_of_bound bound) (timed s)) }
@@ -244,7 +246,7 @@ impl Runs {
         Some(runs.get(begun - 1))
     }
 
-    /// The place behind the last listed segment.
+    /// The index after the last listed segment.
     fn finish(&self, window: &Window) -> u64
         requires window { IsWindowOf self.now window.now }
         requires reached { IsReached self.now window.now }
@@ -256,7 +258,7 @@ impl Runs {
         }
     }
 
-    /// The segments that go on to an open end and are reached.
+    /// The reached segments of those that continue to an open end.
     fn tail(&self, window: &Window) -> Option<Run>
         requires window { IsWindowOf self.now window.now }
         requires reached { IsReached self.now window.now }
@@ -269,8 +271,8 @@ impl Runs {
         endless.until(high)
     }
 
-    /// Whether the segments that go on to an open end reach one that breaks the limits. As they last equally long, the
-    /// last one tells it.
+    /// Whether the segments that continue to an open end reach one that breaks the limits. As they are equally long,
+    /// checking the last one is enough.
     fn is_broken(&self, window: &Window) -> bool
         requires { IsWindowOf self.now window.now }
         ensures { result ≡ is_out_of_range self.now window.now }

@@ -1,4 +1,4 @@
-// A timeline that many Representations share.
+// A timeline shared by many Representations.
 ghost use Rattle.std.specs.Prelude.{◌≡◌, false, IfOk, MatchResult};
 
 use crate::builder::RunsBuilder;
@@ -11,14 +11,14 @@ use std::alloc::Global;
 use std::marker::Model;
 use std::rc::Rc;
 
-/// The S elements of a timeline: the runs of the first ones, and those that are left.
+/// The S elements of a timeline: the runs of the leading ones, and the others.
 #[derive(Drop)]
 pub struct LaidTimeline {
-    /// The runs of the first S elements, up to one that has none for every timescale.
+    /// The runs of the leading S elements, up to one that has no run common to all timescales.
     pub media: MediaRuns,
-    /// The S elements behind them.
+    /// The S elements after them.
     pub rest: SList,
-    /// Whether some S lasts no time.
+    /// Whether some S has duration 0.
     pub no_time: bool,
 }
 
@@ -31,10 +31,10 @@ impl LaidTimeline {
 }
 
 /// The S elements of a SegmentTimeline (ISO/IEC 23009-1, 5.3.9.6), laid out once for all Representations that have it,
-/// whatever their timescales, their `@presentationTimeOffset` and the Period's end. The `Runs` of each of them keep a
-/// hold of it, and no copy.
+/// whatever their timescales, their `@presentationTimeOffset` and the Period's end. The `Runs` of each of them
+/// share it, without a copy.
 ///
-/// In a contract it is what was laid out, and `LaysOut` says of which S elements.
+/// In a contract it is what was laid out, and `LaysOut` relates it to S elements.
 #[derive(Drop)]
 pub struct SharedTimeline {
     laid: Rc<LaidTimeline>,
@@ -75,7 +75,7 @@ impl SharedTimeline {
         Ok(SharedTimeline { laid })
     }
 
-    /// The S elements behind the runs that were laid out.
+    /// The S elements after the runs that were laid out.
     pub(crate) fn rest(&self) -> &[SEntry]
         ensures rest { result.now ≡ self.now.rest }
         ensures laid { IsLaidTimeline self.now }
@@ -83,15 +83,14 @@ impl SharedTimeline {
         self.laid.rest.as_slice()
     }
 
-    /// Whether some S lasts no time.
+    /// Whether some S has duration 0.
     pub(crate) fn has_no_time(&self) -> bool
         ensures { result ≡ self.now.no_time }
     {
         self.laid.no_time
     }
 
-    /// The runs that were laid out, counted by a scale, and the S elements that are left; or the fault of a segment of
-    /// these runs.
+    /// The runs that were laid out, in a scale, and the remaining S elements; or the fault of a segment of these runs.
     pub(crate) fn begin(
         &self,
         alloc: Global,

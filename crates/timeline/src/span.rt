@@ -9,7 +9,7 @@ ghost use Rattle.timeline.specs.Faults.{is_apart};
 use crate::spans::is_apart;
 use exact_time::Tick;
 
-/// When a segment begins and ends, counted from the Period's start, and its number. A segment that begins before its
+/// When a segment begins and ends, relative to the Period's start, and its number. A segment that begins before its
 /// Period has a negative start.
 #[derive(Clone, Copy, Debug, PartialEq, Eq)]
 pub struct Span {
@@ -19,8 +19,8 @@ pub struct Span {
 }
 
 impl Span {
-    /// Whether it begins more than half its duration before or after a time, at which the segment before it ends. It takes
-    /// no memory.
+    /// Whether it begins more than half its duration before or after a time, the end of the segment before it. It
+    /// allocates nothing.
     ///
     /// Requires that it begins before it ends, and lasts at most 1,000,000 s, as each listed segment does.
     pub fn is_apart_from(&self, former: Tick) -> bool
@@ -36,7 +36,7 @@ impl Span {
 #[derive(Clone, Copy, PartialEq, Eq)]
 pub struct SpanRun {
     pub first: Span,
-    /// How long each one lasts, in ticks of the first one's scale. It tells nothing where there is one alone.
+    /// How long each one lasts, in ticks of the first one's scale. It has no meaning where there is only one.
     pub step: u64,
     /// How many there are.
     pub count: u64,

@@ -1,4 +1,4 @@
-// Segments whose times are given one by one.
+// Segments with given times.
 ghost use Rattle.std.specs.Prelude.{◌≡◌, ◌<◌, ◌^◌, ◌*◌, pos, ◌*ℤ◌, false, Some, None, MatchResult, unsigned_abs};
 ghost use Rattle.bridge_io.specs.Answer.{Gives};
 ghost use Rattle.exact_time.specs.Tick.{time_of};
@@ -24,8 +24,8 @@ impl Runs {
     /// Segments with these times, each with its name of a list. They are numbered by the scale, and the spans' own
     /// numbers aren't read.
     ///
-    /// The faults are tried in this order: ZeroDuration where a span's end isn't after its start; Range and Step, by
-    /// the first segment concerned; ListLength where there aren't as many spans as names.
+    /// The faults are tried in this order: `ZeroDuration` where a span's end isn't after its start; `Range` and
+    /// `Step`, by the first segment concerned; `ListLength` where the number of spans isn't that of the names.
     pub fn from_list(
         alloc: Global,
         times: &SpanList,
@@ -44,7 +44,7 @@ impl Runs {
     }
 }
 
-/// Whether some span lasts no time.
+/// Whether some span has duration 0.
 fn have_no_time(spans: &[Span]) -> bool
     ensures { result ≡ have_no_time spans.now }
 {
@@ -57,7 +57,7 @@ fn lasts_no_time(span: &Span) -> bool
     span.end <= span.start
 }
 
-/// The segments in a row.
+/// The segments in order.
 fn in_row(alloc: Global, spans: &[Span], ticks: u32) -> Result<RunsBuilder, TimeFault>
     requires lasting { have_no_time spans.now ≡ false }
     requires positive { 0 < ticks }
@@ -77,7 +77,7 @@ fn in_row(alloc: Global, spans: &[Span], ticks: u32) -> Result<RunsBuilder, Time
     Ok(builder)
 }
 
-/// Judges a span on its limits and on its distance from the end of the one before it.
+/// Checks a span's limits and its distance from the end of the one before it.
 fn judge(span: &Span, former: Option<Tick>) -> Result<(), TimeFault>
     requires { lasts_no_time (extent_of span.now) ≡ false }
     ensures { MatchResult result (λ _. fault_of_span former span.now ≡ None) (λ fault. fault_of_span former span.now ≡ Some fault) }
@@ -114,8 +114,8 @@ fn ends_late(end: Tick) -> bool
     farthest < end
 }
 
-/// Whether a segment begins more than half its duration before or after a time. It doesn't last longer than
-/// 1,000,000 s, so a time that is farther from its start needs no more arithmetic.
+/// Whether a segment begins more than half its duration before or after a time. It lasts at most 1,000,000 s, so a
+/// time that is farther from its start needs no further arithmetic.
 pub(crate) fn is_apart(start: Tick, end: Tick, former: Tick) -> bool
     requires lasting { lasts_no_time (one_extent start end) ≡ false }
     requires short { too_long (one_extent start end) ≡ false }
@@ -129,7 +129,7 @@ pub(crate) fn is_apart(start: Tick, end: Tick, former: Tick) -> bool
     lasts * u128::from(former.scale) < 2 * gap * u128::from(end.scale)
 }
 
-/// How many ticks a segment lasts, of which the product of its scales makes a second.
+/// How many ticks a segment lasts; the product of its two scales makes a second.
 fn lasting(start: Tick, end: Tick) -> u128
     requires { lasts_no_time (one_extent start end) ≡ false }
     ensures value { (lasting (one_extent start end)).ticks ≡ pos result }
@@ -138,7 +138,7 @@ fn lasting(start: Tick, end: Tick) -> u128
     between(start, end) as u128
 }
 
-/// How many ticks a time is after another one, of which the product of their scales makes a second.
+/// How many ticks a time is after another one; the product of their scales makes a second.
 fn between(first: Tick, end: Tick) -> i128
     ensures value { result ≡ (difference (time_of end) (time_of first)).ticks }
     ensures bounded { unsigned_abs result < 2 ^ 97 }

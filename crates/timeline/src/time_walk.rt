@@ -9,15 +9,15 @@ use crate::run_slice::{RunSlice, Test};
 use crate::{Span, SpanRun};
 use std::marker::Model;
 
-/// The times and numbers of segments in order. The next ones take a few additions each, and no division.
+/// An iterator over the times and numbers of segments in order. Each step takes a few additions, and no division.
 ///
 /// In a contract it is the times of the segments that are left.
 #[derive(Drop)]
 pub struct TimeWalk<'a> {
-    /// What is left of the run that the next segment stands in.
+    /// The rest of the run of the next segment.
     now: Option<Run>,
     later: RunSlice<'a>,
-    /// The segments behind those of the runs.
+    /// The segments after those of the runs.
     tail: Option<Run>,
     /// How many segments are left in all.
     left: u64,
@@ -44,7 +44,7 @@ impl<'a> TimeWalk<'a> {
     ghost use Rattle.timeline.specs.SpanRuns.{IsNextRun};
     ghost use Rattle.timeline.specs.RunSegments.{extents_of_some, AreLaidWith, all_extents};
 
-    /// So many segments from a place on.
+    /// `left` segments from an index on.
     pub(crate) fn from(
         runs: RunSlice<'a>,
         tail: Option<Run>,
@@ -86,7 +86,7 @@ impl<'a> TimeWalk<'a> {
         }
     }
 
-    /// The next segment, before which the walk stays.
+    /// The next segment, without moving past it.
     #[inline(always)]
     pub(crate) fn peek(&self) -> Option<Span>
         ensures next { MatchOption result (self.entry.now ≡ []) (λ span. slice_get self.entry.now 0 ≡ Some (timing_of span)) }
@@ -103,8 +103,8 @@ impl<'a> TimeWalk<'a> {
         })
     }
 
-    /// Goes behind the next segments that are equally long, and tells them at once, in a few additions, however many they
-    /// are. An S element or a given time takes at most one call, a duration two. There are none exactly at the end.
+    /// Moves past the next segments of equal length, and returns them at once, in a few additions, however many they are.
+    /// An S element or a given time takes at most one call, a duration two. `None` exactly at the end.
     pub fn next_run(&mut self) -> Option<SpanRun>
         ensures { MatchOption result ((self.old ≡ []) × (self.new ≡ [])) (λ run. IsNextRun self.old run self.new) }
     {
@@ -129,7 +129,7 @@ impl<'a> TimeWalk<'a> {
         Some(run)
     }
 
-    /// Goes behind the next segment.
+    /// Moves past the next segment.
     pub(crate) fn advance(&mut self)
         ensures { self.new ≡ drop 1 self.old }
     {
@@ -144,7 +144,7 @@ impl<'a> TimeWalk<'a> {
     }
 }
 
-/// The first run, and those behind it.
+/// The first run, and those after it.
 fn split(runs: RunSlice<'_>, tail: Option<Run>) -> (Option<Run>, RunSlice<'_>, Option<Run>)
     ensures { IsSplit (slice_runs runs.entry) (option_map timed tail) (option_map timed result.0) (slice_runs result.1)
         (option_map timed result.2) }
@@ -155,7 +155,7 @@ fn split(runs: RunSlice<'_>, tail: Option<Run>) -> (Option<Run>, RunSlice<'_>, O
     }
 }
 
-/// Goes to the first of the runs behind, and at their end to the tail.
+/// Moves to the first of the later runs, and at their end to the tail.
 #[inline(always)]
 fn go_on(now: &mut Option<Run>, later: &mut RunSlice<'_>, tail: &mut Option<Run>)
     ensures { IsSplit (slice_runs later.old) (option_map timed tail.old) (option_map timed now.new) (slice_runs later.new)

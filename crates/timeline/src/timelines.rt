@@ -15,14 +15,14 @@ use crate::{End, Names, Runs, SEntry, SList, Scale, SharedTimeline, TimeFault};
 use exact_time::ceil_count;
 use std::alloc::Global;
 
-/// How far the segments of an S go on.
+/// How far the segments of an S continue.
 #[derive(Clone, Copy)]
 pub enum Reach {
-    /// So many segments.
+    /// This many segments.
     Count(u128),
-    /// Up to an end that isn't known yet.
+    /// To an end that isn't known yet.
     Open,
-    /// Up to a time that isn't after their start, or to none.
+    /// To a time that isn't after their start, or to no time.
     Nowhere,
 }
 
@@ -33,10 +33,10 @@ impl Runs {
 
     /// The segments of a SegmentTimeline (ISO/IEC 23009-1, 5.3.9.6).
     ///
-    /// `live` says that the MPD is dynamic, so that segments that go on up to the end of an open Period are those that
-    /// end by an instant. The faults are tried in this order: ZeroDuration where an S has `@d` 0; NoEnd where the last
-    /// S goes on up to the end of an open Period of a static MPD; Range and Step, by the first segment concerned;
-    /// ListLength where the names are a list and aren't as many as the segments.
+    /// `live` says that the MPD is dynamic, so that segments that continue to the end of an open Period are those that
+    /// end by the current time. The faults are tried in this order: `ZeroDuration` where an S has `@d` 0; `NoEnd`
+    /// where the last S continues to the end of an open Period of a static MPD; `Range` and `Step`, by the first
+    /// segment concerned; `ListLength` where the names are a list and aren't as many as the segments.
     pub fn from_timeline(
         alloc: Global,
         list: &SList,
@@ -51,8 +51,8 @@ impl Runs {
         Runs::from_shared(alloc, &timeline, end, live, scale, names)
     }
 
-    /// The segments of a SegmentTimeline that others share. It is `from_timeline` of the S elements that were laid out, and
-    /// takes no memory for each of them.
+    /// The segments of a shared SegmentTimeline. The result is that of `from_timeline` for the S elements that were laid
+    /// out, but it allocates nothing per S element.
     pub fn from_shared(
         alloc: Global,
         timeline: &SharedTimeline,
@@ -74,21 +74,21 @@ impl Runs {
     }
 }
 
-/// Whether some S lasts no time.
+/// Whether some S has duration 0.
 pub fn have_no_time(entries: &[SEntry]) -> bool
     ensures { result ≡ list_any (λ s. s.d == 0) entries.now }
 {
     entries.iter().any(|entry| entry.d == 0)
 }
 
-/// Whether the S elements of a static MPD go on to the end of a Period that has none.
+/// Whether the S elements of a static MPD continue to the end of a Period that has none.
 fn lack_end(entries: &[SEntry], end: End, live: bool) -> bool
     ensures { result ≡ (not live && is_unbounded end && ends_open entries.now) }
 {
     !live && end == End::Unbounded && goes_on(entries)
 }
 
-/// Whether the last S goes on up to the Period's end.
+/// Whether the last S continues to the Period's end.
 fn goes_on(entries: &[SEntry]) -> bool
     ensures { result ≡ ends_open entries.now }
 {
@@ -98,7 +98,7 @@ fn goes_on(entries: &[SEntry]) -> bool
     }
 }
 
-/// The segments of the S elements in a row.
+/// The segments of the S elements in order.
 fn laid_out(
     alloc: Global,
     timeline: &SharedTimeline,
@@ -117,7 +117,7 @@ fn laid_out(
     Ok(builder)
 }
 
-/// Adds the segments of an S, which others follow.
+/// Adds the segments of an S, followed by others.
 fn add_entry(
     builder: &mut RunsBuilder,
     entry: &SEntry,
@@ -147,7 +147,7 @@ fn add_entry(
     }
 }
 
-/// Where the first segment of an S begins that follows on a segment.
+/// Where the first segment of an S begins, given the end of the segment before it.
 fn start_of(entry: &SEntry, former: u128) -> u128
     requires { former < 2 ^ 64 }
     ensures value { result ≡ start_of former entry.now }
@@ -159,7 +159,7 @@ fn start_of(entry: &SEntry, former: u128) -> u128
     }
 }
 
-/// How far the segments of an S go on, the first of which begins at `start`.
+/// How far the segments of an S continue, the first of which begins at `start`.
 pub fn reach_of(entry: &SEntry, start: u128, later: &[SEntry], end: &End, scale: Scale) -> Reach
     requires start { start < 2 ^ 64 }
     requires lasting { 0 < entry.now.d }

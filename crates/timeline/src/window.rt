@@ -4,7 +4,7 @@ use crate::bound::Bound;
 /// Which segments are listed: those that end after the Period's start, after `after`, and at or before `until`. Both
 /// are nanoseconds from the Period's start.
 ///
-/// Segments that go on to an open end of their Period are those that end by `until`.
+/// Segments that continue to an open end of their Period are those that end by `until`.
 #[derive(Clone, Copy, PartialEq, Eq)]
 pub struct Window {
     pub after: Option<i128>,
@@ -14,14 +14,14 @@ pub struct Window {
 impl Window {
     ghost use Rattle.timeline.specs.Bounds.{StandsFor, StandsForSome, low_of, high_of};
 
-    /// The bound that a listed segment's end is after.
+    /// The exclusive lower bound of a listed segment's end.
     pub(crate) fn low(&self) -> Bound
         ensures { StandsFor result (low_of self.now) }
     {
         Bound::nanos(self.after.unwrap_or(0).max(0))
     }
 
-    /// The bound that a listed segment's end isn't after.
+    /// The inclusive upper bound of a listed segment's end.
     pub(crate) fn high(&self) -> Option<Bound>
         ensures { StandsForSome result (high_of self.now) }
     {

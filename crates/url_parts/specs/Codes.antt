@@ -1,4 +1,4 @@
--- The classes of codes in a codecs list (RFC 6381, 3.3), by the characters that stand before the first `.`.
+-- The classes of codecs in a codecs list (RFC 6381, 3.3), by the characters before the first `.`.
 use Rattle.std.specs.{Prelude.{ℕ, ◌==◌, List, [], ◌∷◌, codes, if◌then◌else◌}, List.before_first}
 use Rattle.bridge_io.specs.Texts.{is_among}
 use Rattle.url_parts.specs.{declared.code.CodeClass.CodeClass, declared.code.CodeClass.TheVariants.{Video, Audio, Text, Unknown}}
@@ -18,7 +18,7 @@ audio_names =
 abbrev pub text_names : List (List ℕ)
 text_names = codes "stpp" ∷ codes "wvtt" ∷ []
 
--- the class of a code
+-- the class of a codec
 abbrev pub class_of : List ℕ → CodeClass
 class_of code = let name = before_first (λ b. b == 46) code in
     if is_among name video_names then Video else (if is_among name audio_names then Audio

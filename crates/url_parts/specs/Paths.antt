@@ -19,14 +19,14 @@ abbrev pub is_folder_path : List ℕ → Bool
 is_folder_path text = list_all is_path_byte text && nat_lt 0 (length text) && not (slice_index text 0 == 47)
     && (slice_index text (length text - 1) == 47)
 
--- behind this front each path is resolved as it is alone against the other base
+-- the rest of each path after this prefix, resolved against the other base, gives what the whole path gives
 abbrev pub IsBeneath : (base front deeper : List ℕ) → Type 0
 IsBeneath base front deeper = (path : List ℕ) → IsPath path → resolve base (front ++ path) ≡ resolve deeper path
 
--- a byte of a name that is no slash
+-- a byte of a name other than a slash
 abbrev pub is_segment_byte : ℕ → Bool
 is_segment_byte b = is_name_byte b && not (b == 47)
 
--- a text that stands behind a folder as it is: a name, or one segment that is longer than names are
+-- a text that is appended to a folder as it is: a name, or one segment that is longer than a name may be
 abbrev pub is_plain : List ℕ → Bool
 is_plain text = is_name text || (nat_lt 255 (length text) && list_all is_segment_byte text)

@@ -1,4 +1,4 @@
-// Addresses of files, and of parts of them.
+// URLs of files, and of byte ranges.
 ghost use Rattle.std.specs.Prelude.{◌≡◌, ℕ, List, IfOk};
 
 use crate::Range;
@@ -7,8 +7,8 @@ use std::alloc::Global;
 use std::marker::Model;
 use std::rc::Rc;
 
-/// The address of a file: an absolute http or https URL of at most 2,048 bytes in the form that the URL Standard,
-/// section 4.5, writes. Its bytes are 0x21 to 0x7E without `"`.
+/// The URL of a file: absolute, http or https, at most 2,048 bytes, serialized as in the URL Standard, section 4.5.
+/// Its bytes are 0x21 to 0x7E without `"`.
 ///
 /// Copies share one text.
 #[derive(Drop)]
@@ -38,7 +38,7 @@ impl Address {
         Ok(Address { text })
     }
 
-    /// The address's text.
+    /// The URL's text.
     pub fn as_str(&self) -> &str
         ensures text { result.now ≡ self.now }
         ensures address { IsAddress self.now }
@@ -46,7 +46,7 @@ impl Address {
         self.text.as_str()
     }
 
-    /// The same address once more. It shares the text, and takes no memory of its own.
+    /// The same URL again. It shares the text, and allocates nothing.
     pub fn copy(&self, alloc: Global) -> Result<Address, NoMemory>
         ensures { IfOk result (λ copy. copy ≡ self.now) }
     {
@@ -56,17 +56,17 @@ impl Address {
     }
 }
 
-/// A file, or a range of its bytes (ISO/IEC 23009-1, 5.3.9.2.2; RFC 8216, 4.3.2.2).
+/// A file, or a byte range of it (ISO/IEC 23009-1, 5.3.9.2.2; RFC 8216, 4.3.2.2).
 #[derive(Drop)]
 pub struct Part {
-    /// Where the file lies.
+    /// The URL of the file.
     pub address: Address,
-    /// Which of its bytes; all of them where there is none.
+    /// Its byte range; `None` is the whole file.
     pub range: Option<Range>,
 }
 
 impl Part {
-    /// The same part once more.
+    /// The same part again.
     pub fn copy(&self, alloc: Global) -> Result<Part, NoMemory>
         ensures { IfOk result (λ copy. copy ≡ self.now) }
     {

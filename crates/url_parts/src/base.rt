@@ -1,4 +1,4 @@
-// Bases, against which references are resolved.
+// Base URLs, against which references are resolved.
 ghost use Rattle.std.specs.Prelude.{◌≡◌, ◌≤◌, ℕ, true, List, ◌++◌, length, take, drop, IfOk, IfSome, IsAscii, position, string_bytes};
 ghost use Rattle.std.specs.List.{list_all};
 ghost use Rattle.url.specs.Parser.{Gives as IsParsed, Parsed};
@@ -16,19 +16,19 @@ use std::marker::Model;
 use std::rc::Rc;
 use url::{ParseResult, Url};
 
-/// The most bytes that an address has.
+/// The most bytes that a URL has.
 const MAX_LEN: usize = 2048;
 
 /// The most bytes that a name has.
 const MAX_NAME_LEN: usize = 255;
 
-/// An address against which references are resolved (RFC 3986, 5.1; ISO/IEC 23009-1, 5.6.4).
+/// A URL against which references are resolved (RFC 3986, 5.1; ISO/IEC 23009-1, 5.6.4).
 ///
 /// Copies share one URL.
 #[derive(Drop)]
 pub struct Base {
     url: Rc<Url>,
-    /// How many bytes of the text its folder has.
+    /// How many bytes of the text its folder takes.
     folder: usize,
 }
 
@@ -47,8 +47,8 @@ impl Base {
     ghost use Rattle.url_parts.specs.Addresses.{absolute, resolve, beside, IsBase};
     ghost use Rattle.url_parts.specs.Paths.{is_plain, IsBeneath};
 
-    /// Reads an absolute URL as a base. Refused, Scheme and TooLong come exactly where they hold of the text, the first
-    /// of them in this order.
+    /// Reads an absolute URL as a base. `Refused`, `Scheme` and `TooLong` come exactly where they apply to the text,
+    /// the first of them in this order.
     #[tactic(auto, unfolding(crate::specs::Addresses::absolute))]
     pub fn of(alloc: Global, text: &str) -> Result<Base, UrlFault>
         ensures { Gives (λ base. base) refusal result (absolute text.now) }
@@ -56,10 +56,10 @@ impl Base {
         Ok(Base::new(alloc, accept(Url::parse(alloc, text))?)?)
     }
 
-    /// The base that a reference gives against this one.
+    /// The base that a reference resolves to against this one.
     ///
-    /// A reference that begins with `http://` or `https://` is read without the base, with which the URL Standard
-    /// gives the same. Refused, Scheme and TooLong come exactly where they hold of the reference against this base, the
+    /// A reference that begins with `http://` or `https://` is read without the base: the URL Standard gives the same
+    /// with it. `Refused`, `Scheme` and `TooLong` come exactly where they apply to the reference against this base, the
     /// first of them in this order.
     pub fn deeper(&self, alloc: Global, reference: &str) -> Result<Base, UrlFault>
         ensures { Gives (λ base. base) refusal result (resolve self.now reference.now) }
@@ -67,13 +67,14 @@ impl Base {
         Ok(Base::new(alloc, self.resolve(alloc, reference)?)?)
     }
 
-    /// The base of all paths that begin with a front that ends in `/`: each is resolved against it as it is behind the front
-    /// against this base. There is none where the front isn't the path of a folder, or where no base comes of it.
+    /// The base for all paths that begin with a prefix that ends in `/`: the rest of each, resolved against it, gives what
+    /// the whole path gives against this base. `None` where the prefix isn't the path of a folder, or where it gives no
+    /// base.
     #[tactic(auto, using(crate::proofs::Fronts::beneath))]
     pub fn beneath(&self, alloc: Global, front: &str) -> Result<Option<Base>, NoMemory>
         ensures { IfOk result (λ deeper. IfSome deeper (IsBeneath self.now front.now)) }
     {
-        let _ = self.as_str(); // opens the value, for what it keeps
+        let _ = self.as_str(); // opens the value, for its invariant
         if !is_folder_path(front) {
             return Ok(None);
         }
@@ -84,11 +85,10 @@ impl Base {
         }
     }
 
-    /// The address that a reference gives against this base.
+    /// The URL that a reference resolves to against this base.
     ///
-    /// A name stands right behind the base's folder, so that nothing of it is parsed, and so does one segment that is longer.
-    /// Refused, Scheme and TooLong come exactly where they hold of the reference against this base, the first of them in
-    /// this order.
+    /// A name is appended to the base's folder without parsing, and so is one longer segment. `Refused`, `Scheme` and
+    /// `TooLong` come exactly where they apply to the reference against this base, the first of them in this order.
     #[tactic(auto, using(crate::proofs::Relative::resolve_plain))]
     pub fn join(&self, alloc: Global, reference: &str) -> Result<Address, UrlFault>
         ensures { Gives (λ address. address) refusal result (resolve self.now reference.now) }
@@ -102,7 +102,7 @@ impl Base {
     /// The base's folder, to which a reference is to be added: the base's text without query and fragment, up to and
     /// with its last `/` (RFC 3986, 5.2.3).
     ///
-    /// The text has room for so many more bytes. NoMemory comes where there is no memory for it.
+    /// The text has room for `room` more bytes. `NoMemory` comes where there is no memory for it.
     pub fn begin(&self, alloc: Global, room: usize) -> Result<String, NoMemory>
         ensures text { IfOk result (λ text. string_bytes text ≡ folder_of self.now) }
         ensures base { IsBase self.now }
@@ -113,11 +113,11 @@ impl Base {
         Ok(text)
     }
 
-    /// The address that a reference gives against this base, where the text is the base's folder (`begin`) followed by
-    /// the reference.
+    /// The URL that a reference resolves to against this base, where the text is the base's folder (`begin`) followed
+    /// by the reference.
     ///
-    /// Of a name the text itself becomes the address. Refused, Scheme and TooLong come exactly where they hold of the
-    /// reference against this base, the first of them in this order.
+    /// For a name the text itself becomes the URL. `Refused`, `Scheme` and `TooLong` come exactly where they apply to
+    /// the reference against this base, the first of them in this order.
     #[tactic(auto, using(crate::proofs::Relative::resolve_behind, crate::proofs::Relative::behind_is_address))]
     pub fn finish(&self, alloc: Global, text: String) -> Result<Address, UrlFault>
         requires { take (length (folder_of self.now)) (string_bytes text) ≡ folder_of self.now }
@@ -130,11 +130,11 @@ impl Base {
         unless_long(alloc, text)
     }
 
-    /// The address of a name in the base's folder: the base's text without query and fragment, up to and with its
-    /// last `/`, followed by the name.
+    /// The URL of a name in the base's folder: the base's text without query and fragment, up to and with its last `/`,
+    /// followed by the name.
     ///
-    /// TooLong comes exactly where this text has more than 2,048 bytes. Refused would come where the text isn't the one
-    /// that the URL Standard writes for it: of a base and a name it always is (`laws::name_beside`).
+    /// `TooLong` comes exactly where this text has more than 2,048 bytes. `Refused` would come where the text isn't its
+    /// own serialization by the URL Standard: for a base and a name it always is (`laws::name_beside`).
     #[tactic(auto, using(crate::proofs::Relative::beside_name, crate::proofs::Relative::name_is_plain))]
     pub fn beside(&self, alloc: Global, name: &Name) -> Result<Address, UrlFault>
         ensures { Gives (λ address. address) refusal result (beside self.now name.now) }
@@ -152,7 +152,7 @@ impl Base {
         text_of(&self.url)
     }
 
-    /// The same base once more. It shares the URL, and takes no memory of its own.
+    /// The same base again. It shares the URL, and allocates nothing.
     pub fn copy(&self, alloc: Global) -> Result<Base, NoMemory>
         ensures { IfOk result (λ copy. copy ≡ self.now) }
     {
@@ -179,7 +179,7 @@ impl Base {
         &text_of(&self.url)[..self.folder]
     }
 
-    /// The address of a name in the base's folder.
+    /// The URL of a name in the base's folder.
     fn child(&self, alloc: Global, name: &str) -> Result<Address, UrlFault>
         requires { is_plain name.now ≡ true }
         ensures value { Gives (λ address. address) refusal result (unless_long (folder_of self.now ++ name.now)) }
@@ -190,7 +190,7 @@ impl Base {
         unless_long(alloc, text)
     }
 
-    /// The URL that a reference gives against this base, unless it is no address.
+    /// The URL that a reference resolves to against this base, where it is accepted.
     #[tactic(auto, using(crate::proofs::Bases::own_url), unfolding(crate::specs::Addresses::resolve, crate::specs::Addresses::absolute))]
     fn resolve(&self, alloc: Global, reference: &str) -> Result<Url, UrlFault>
         ensures value { Gives text_of refusal result (resolve self.now reference.now) }
@@ -204,7 +204,7 @@ impl Base {
     }
 }
 
-/// The URL that was parsed, unless it is no address.
+/// The parsed URL, where it is accepted.
 fn accept(parsed: ParseResult<Url>) -> Result<Url, UrlFault>
     ensures value { (expected : Parsed Parts) → IsParsed parsed expected → Gives text_of refusal result (accepted expected) }
     ensures base { IfOk result IsBaseUrl }
@@ -223,7 +223,7 @@ fn accept(parsed: ParseResult<Url>) -> Result<Url, UrlFault>
     Ok(url)
 }
 
-/// The address that a text is, unless it is too long.
+/// A text as a URL, unless it is too long.
 pub(crate) fn unless_long(alloc: Global, text: String) -> Result<Address, UrlFault>
     requires { length (string_bytes text) ≤ 2048 → IsAddress (string_bytes text) }
     ensures { Gives (λ address. address) refusal result (unless_long (string_bytes text)) }
@@ -269,7 +269,7 @@ pub(crate) fn folder_of(text: &str) -> &str
     }
 }
 
-/// What stands before the first `?` or `#`.
+/// The text before the first `?` or `#`.
 fn without_tail(text: &str) -> &str
     ensures { result.now ≡ without_tail text.now }
 {
@@ -279,18 +279,18 @@ fn without_tail(text: &str) -> &str
     }
 }
 
-/// The place of the first `?` or `#`.
+/// The index of the first `?` or `#`.
 fn tail_start(text: &[u8]) -> Option<usize>
     ensures { result ≡ position is_tail text.now }
 {
     text.iter().position(|byte| matches!(byte, b'?' | b'#'))
 }
 
-/// The rest of an address after a folder's text, without query and fragment, where that is a name.
+/// The rest of a URL after a folder's text, without query and fragment, where that is a name.
 ///
 /// Where the base's text is its own folder, so that it ends in `/` and has no query and no fragment, the name is that
-/// of the file: against the base it gives the address without query and fragment (`laws::name_of_local_file`). For
-/// another base it is the rest of the text alone.
+/// of the file: against the base it gives the URL without query and fragment (`laws::name_of_local_file`). For
+/// another base it is only the rest of the text.
 pub fn local_name(alloc: Global, folder: &Base, address: &Address) -> Result<Option<Name>, NoMemory>
     ensures { IfOk result (λ name. name ≡ local_name_of folder.now address.now) }
 {
@@ -333,7 +333,7 @@ fn is_path_byte(byte: u8) -> bool
     byte.is_ascii_graphic() && !matches!(byte, b'#' | b':' | b'?' | b'\\')
 }
 
-/// Whether a text stands behind a folder as it is: a name, or one segment that is longer than names are.
+/// Whether a text is appended to a folder as it is: a name, or one segment that is longer than a name may be.
 fn is_plain(text: &[u8]) -> bool
     ensures { result ≡ is_plain text.now }
 {

@@ -1,13 +1,13 @@
-// Why a reference gives no address.
+// Why a reference gives no URL.
 use bridge_io::NoMemory;
 use std::alloc::AllocError;
 use thiserror::Error;
 use url::ParseError;
 
-/// Why a reference gives no address. The variants are tried in their order.
+/// Why a reference gives no URL. The variants are tried in their order.
 #[derive(Clone, Copy, Debug, PartialEq, Eq, Error)]
 pub enum UrlFault {
-    /// The URL Standard refuses the reference, or its result holds a `"` or a byte outside 0x21 to 0x7E.
+    /// The URL Standard rejects the reference, or the result contains a `"` or a byte outside 0x21 to 0x7E.
     #[error("the reference is refused")]
     Refused,
     /// The result isn't http or https.
@@ -16,7 +16,7 @@ pub enum UrlFault {
     /// The result has more than 2,048 bytes.
     #[error("the address is too long")]
     TooLong,
-    /// Memory is wanting.
+    /// Out of memory.
     #[error("out of memory")]
     Memory,
 }

@@ -1,4 +1,4 @@
-//! Laws of addresses.
+//! Laws of URLs.
 ghost use Rattle.std.specs.Prelude.{◌≡◌, ℕ, List, ◌++◌, Ok, Some};
 ghost use Rattle.url_parts.specs.Addresses.{resolve, beside, folder_of, unless_long, without_tail, local_name_of};
 ghost use Rattle.url_parts.specs.Laws.{NeedsNoBase, IsGivenAgain, IsGivenInFolder, GoesOn};
@@ -14,7 +14,7 @@ pub fn absolute_reference(reference: &str)
     let _ = reference;
 }
 
-/// The address that a reference gives is given again by each base.
+/// A URL that a reference resolved to resolves to itself against each base.
 pub fn resolved_address(base: &str, reference: &str)
     ensures { (address : List ℕ) → resolve base.now reference.now ≡ Ok address → IsGivenAgain address }
 {
@@ -22,7 +22,8 @@ pub fn resolved_address(base: &str, reference: &str)
     let _ = reference;
 }
 
-/// The address of a name beside a base is the one that the name gives as a reference, and is given again by each base.
+/// The URL of a name beside a base is the one that the name resolves to as a reference, and resolves to itself against
+/// each base.
 pub fn name_address(base: &Base, name: &Name)
     ensures reference { beside base.now name.now ≡ resolve base.now name.now }
     ensures again { (address : List ℕ) → beside base.now name.now ≡ Ok address → IsGivenAgain address }
@@ -31,7 +32,7 @@ pub fn name_address(base: &Base, name: &Name)
     let _ = name.as_str();
 }
 
-/// The address of a name beside a base is the folder's text and the name, and is refused for its length alone.
+/// The URL of a name beside a base is the folder's text and the name, and is rejected only for its length.
 #[tactic(auto, using(crate::proofs::Relative::beside_name))]
 pub fn name_beside(base: &Base, name: &Name)
     ensures { beside base.now name.now ≡ unless_long (folder_of base.now ++ name.now) }
@@ -40,8 +41,8 @@ pub fn name_beside(base: &Base, name: &Name)
     let _ = name.as_str();
 }
 
-/// A text that begins with the folder of an address, and goes on with a name, is given by each base, and is refused for
-/// its length alone.
+/// A text that is the folder of a URL followed by a name resolves to itself against each base, and is rejected only for
+/// its length.
 #[tactic(auto, using(crate::proofs::Neighbours::given_in))]
 pub fn name_in_folder(address: &Address, text: &str)
     ensures { IsGivenInFolder address.now text.now }
@@ -50,7 +51,7 @@ pub fn name_in_folder(address: &Address, text: &str)
     let _ = text;
 }
 
-/// A name that is found under a base whose text is its own folder gives the address without query and fragment.
+/// A name that is found under a base whose text is its own folder gives the URL without query and fragment.
 pub fn name_of_local_file(folder: &Base, address: &Address)
     ensures { (name : List ℕ) → folder_of folder.now ≡ folder.now → local_name_of folder.now address.now ≡ Some name
         → resolve folder.now name ≡ Ok (without_tail address.now) }
@@ -59,7 +60,7 @@ pub fn name_of_local_file(folder: &Base, address: &Address)
     let _ = address.as_str();
 }
 
-/// References that are resolved one after another go on from what those before them gave.
+/// References that are resolved one after another start from what those before them gave.
 #[tactic(auto, using(crate::proofs::Chains::goes_on))]
 pub fn one_more_reference(reference: &str)
     ensures { GoesOn reference.now }

@@ -1,4 +1,4 @@
-//! Addresses of media files, their ranges of bytes, and the classes of their codes.
+//! URLs of media files, their byte ranges, and the classes of their codecs.
 #![tactic(auto)]
 
 mod address;

@@ -1,22 +1,22 @@
-// Ranges of bytes.
+// Byte ranges.
 ghost use Rattle.std.specs.Prelude.{◌≡◌};
 ghost use Rattle.std.specs.List.{list_all};
 ghost use Rattle.std.specs.Char.{is_ascii_digit};
 ghost use Rattle.url_parts.specs.Ranges.{range_of, place_of};
 
-/// A range of bytes of a file.
+/// A byte range of a file.
 #[derive(Clone, Copy, PartialEq, Eq)]
 pub struct Range {
-    /// How many bytes stand before it.
+    /// The offset of its first byte.
     pub first: u64,
     /// How many bytes it has.
     pub count: u64,
 }
 
-/// Reads `first-last`, the places of the first and the last byte (ISO/IEC 23009-1, 5.3.9.2.2).
+/// Reads `first-last`, the offsets of the first and the last byte (ISO/IEC 23009-1, 5.3.9.2.2).
 ///
-/// There is no range exactly where the text isn't two decimal numbers below 2^63 with a `-` between them, the first
-/// one at most the last one.
+/// `None` exactly where the text isn't two decimal numbers below 2^63 with a `-` between them, the first one at most
+/// the last one.
 pub fn read_range(text: &str) -> Option<Range>
     ensures { result ≡ range_of text.now }
 {

@@ -9,7 +9,7 @@ use bridge_io::is_name;
 use std::alloc::Global;
 use std::marker::Model;
 
-/// Resolves references one after another. It keeps the folder of an address that it gave: absolute references to files
+/// Resolves references one after another. It caches the folder of a URL that it returned: absolute references to files
 /// in that folder aren't parsed.
 #[derive(Drop)]
 pub struct Resolver {
@@ -22,11 +22,11 @@ impl Resolver {
         Resolver { folder: None }
     }
 
-    /// The address that a reference gives against the base, as `Base::join` gives it.
+    /// The URL that a reference resolves to against the base, as with `Base::join`.
     ///
-    /// The base may be another one at each call. Nothing is parsed of a name, and of a reference that goes on with a name
-    /// behind the folder that is kept (`laws::name_in_folder`). Refused, Scheme and TooLong come exactly where they hold of
-    /// the reference against this base, the first of them in this order.
+    /// The base may be another one at each call. A name isn't parsed, and neither is a reference that is the cached folder
+    /// followed by a name (`laws::name_in_folder`). `Refused`, `Scheme` and `TooLong` come exactly where they apply to the
+    /// reference against this base, the first of them in this order.
     #[tactic(auto, using(crate::proofs::Neighbours::in_folder, crate::proofs::Neighbours::is_address_in_folder))]
     pub fn join(&mut self, alloc: Global, base: &Base, reference: &str) -> Result<Address, UrlFault>
         ensures { Gives (λ address. address) refusal result (resolve base.now reference.now) }
@@ -44,11 +44,11 @@ impl Resolver {
     }
 }
 
-/// The folder of an address.
+/// The folder of a URL.
 #[derive(Drop)]
 struct Folder {
     address: Address,
-    /// How many bytes of the address it has.
+    /// How many bytes of the URL it takes.
     len: usize,
 }
 
@@ -71,7 +71,7 @@ impl Folder {
         Folder { address, len }
     }
 
-    /// The address up to and with the last `/` of its path.
+    /// The URL up to and with the last `/` of its path.
     fn as_bytes(&self) -> &[u8]
         ensures text { result.now ≡ self.now }
         ensures folder { IsFolder self.now }
@@ -79,7 +79,7 @@ impl Folder {
         &self.address.as_str().as_bytes()[..self.len]
     }
 
-    /// Whether a text goes on with a name behind the folder.
+    /// Whether a text is the folder followed by a name.
     fn has(&self, text: &str) -> bool
         ensures value { result ≡ is_name_in self.now text.now }
         ensures folder { IsFolder self.now }
