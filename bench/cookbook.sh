@@ -3,7 +3,7 @@
 # block of commands prints with the block after it: where that says `for example`, without the numbers. It names each recipe that prints what
 # the page shows, and shows each difference. Arguments are the titles of recipes to run; without any it runs all.
 #
-# It needs what the pages name, and `bridge` and `bridge_serve` on the path.
+# It needs what the pages name, and `bridge`, `bridge_publish` and `bridge_serve` on the path.
 set -euo pipefail
 here=$(cd "$(dirname "$0")/.." && pwd)
 export examples=$here/examples

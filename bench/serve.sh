@@ -115,7 +115,7 @@ def indexed(name, count, file):
         it.write('<MPD xmlns="urn:mpeg:dash:schema:mpd:2011"><Period duration="PT1S"><AdaptationSet mimeType="video/mp4" '
                  'codecs="avc1.42c01e">')
         for k in range(count):
-            it.write(f'<Representation id="{k}" bandwidth="{k + 1}"><BaseURL>{file(k)}</BaseURL><SegmentBase indexRange="0-7999999"/>'
+            it.write(f'<Representation id="{k}" bandwidth="{k + 1}"><BaseURL>{file(k)}</BaseURL><SegmentBase indexRange="800-7999999"/>'
                      "</Representation>")
         it.write("</AdaptationSet></Period></MPD>")
 

@@ -17,22 +17,22 @@ use std::{fs, io};
 /// last stays open until another one is, or it is created anew.
 #[derive(Drop)]
 pub struct FolderStore<R: Files> {
-    files: R,
-    alloc: Global,
-    folder: String,
+    pub(crate) files: R,
+    pub(crate) alloc: Global,
+    pub(crate) folder: String,
     /// What was read last.
-    source: Option<OpenFile<R::File>>,
+    pub(crate) source: Option<OpenFile<R::File>>,
     /// What was appended to last.
-    end: Option<OpenFile<R::File>>,
+    pub(crate) end: Option<OpenFile<R::File>>,
     /// The directory of the file that was created last, which exists.
     made: String,
     read_faults: u64,
-    write_faults: u64,
+    pub(crate) write_faults: u64,
 }
 
 /// An open file.
 #[derive(Drop)]
-struct OpenFile<F> {
+pub(crate) struct OpenFile<F> {
     path: String,
     file: F,
 }
@@ -103,7 +103,7 @@ impl<R: Files> Store for FolderStore<R> {
     }
 }
 
-fn path_of(alloc: Global, folder: &String, name: &Name) -> Result<String, AllocError> {
+pub(crate) fn path_of(alloc: Global, folder: &String, name: &Name) -> Result<String, AllocError> {
     let mut path = folder.clone()?;
     path.push('/')?;
     path.push_str(name.as_str())?;

@@ -9,6 +9,7 @@ mod mem_sink;
 mod mem_source;
 mod mem_store;
 mod schedule;
+mod shelf;
 mod std_sink;
 mod std_source;
 
@@ -17,6 +18,7 @@ pub use folder_store::FolderStore;
 pub use mem_sink::MemSink;
 pub use mem_source::MemSource;
 pub use mem_store::MemStore;
+pub use shelf::Shelf;
 pub use std_sink::StdSink;
 pub use std_source::StdSource;
 

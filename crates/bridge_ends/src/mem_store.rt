@@ -19,10 +19,10 @@ use std::collections::BTreeMap;
 /// `append` in a second list, each counted from 0.
 #[derive(Drop)]
 pub struct MemStore {
-    alloc: Global,
-    files: BTreeMap<String, Bytes>,
+    pub(crate) alloc: Global,
+    pub(crate) files: Files,
     reads: Schedule,
-    writes: Schedule,
+    pub(crate) writes: Schedule,
 }
 
 impl MemStore {
@@ -145,10 +145,15 @@ fn fill_from(buf: &mut [u8], bytes: &[u8], at: u64) -> usize
     }
 }
 
-type Files = BTreeMap<String, Bytes>;
+pub(crate) type Files = BTreeMap<String, Bytes>;
 
 /// Sets a file. An error leaves the files as they were.
-fn set(alloc: Global, files: &mut Files, name: &str, bytes: Bytes) -> Result<(), NoMemory>
+pub(crate) fn set(
+    alloc: Global,
+    files: &mut Files,
+    name: &str,
+    bytes: Bytes,
+) -> Result<(), NoMemory>
     ensures ok { OnOk result (get_by_text files.new ≡ put name.now bytes (get_by_text files.old)) }
     ensures err { OnErr result (get_by_text files.new ≡ get_by_text files.old) }
 {

@@ -22,7 +22,7 @@ abbrev pub with_name : List (List ℕ) → Option (List ℕ) → List (List ℕ)
 with_name names (Some name) = names ++ name ∷ []
 with_name names None = names
 
--- the names of the tracks' playlists that lie under the folder, in order, behind some names
+-- the names of the tracks' playlists that lie under the directory, in order, after some names
 abbrev pub names_behind : StorePlace → List (List ℕ) → List TrackValue → List (List ℕ)
 names_behind place names [] = names
 names_behind place names (track ∷ tracks) = names_behind place (with_name names (local_name_of place.folder track.address)) tracks

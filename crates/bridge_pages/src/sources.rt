@@ -63,7 +63,7 @@ impl Reading {
         })
     }
 
-    /// Reads some more files, of which those that aren't there are left out.
+    /// Reads some more files; those that aren't there are skipped.
     fn add_files<F: Store>(
         &mut self,
         alloc: Global,

@@ -1,0 +1,5 @@
+pub mod Given
+pub mod Goes
+pub mod Maps
+pub mod Sound
+pub mod Written

@@ -1,0 +1,12 @@
+pub mod Again
+pub mod Comes
+pub mod Dates
+pub mod Going
+pub mod Joined
+pub mod Made
+pub mod Planned
+pub mod Reloads
+pub mod Rising
+pub mod Risen
+pub mod Running
+pub mod Tails

@@ -1,0 +1,11 @@
+mod Calm
+mod Counted
+mod Going
+mod Halted
+mod InOrder
+mod Kept
+mod Ordered
+mod Placing
+mod Refusing
+mod Taken
+mod Writable

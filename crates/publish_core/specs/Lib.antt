@@ -1,0 +1,9 @@
+pub mod Decisions
+pub mod Laws
+pub mod Names
+pub mod Placed
+pub mod Refusals
+pub mod Reports
+pub mod Runs
+pub mod Sides
+pub mod Words
