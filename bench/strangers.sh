@@ -3,18 +3,22 @@
 # S that thousands of Representations share, SegmentURLs. The longest of three runs counts, with its largest memory. Each is to be answered
 # within 5 seconds and 600 MB. Then MPDs with long texts of which an address keeps little, within 2 seconds and 200 MB, and ones whose names
 # are longer than any address, within 2 seconds and 100 MB. Then `bridge follow` and `bridge follow-hls` of streams as a stranger may make
-# them: each frame and each round within 5 seconds, and the run within 1,200 MB.
+# them: each frame and each round within 5 seconds, and the run within 1,200 MB. Then `bridge_publish` of two playlists of as many segments as
+# fit that share none: each publication within 5 seconds and 300 MB.
 #
-# It wants `rt` and python3, and proves the program first where that isn't kept.
+# It wants `rt` and python3, and proves the programs first where they aren't kept. BRIDGE and PUBLISH name others.
 set -euo pipefail
 source "$(dirname "$0")/program.sh"
+publish=$(realpath -m "${PUBLISH:-$here/crates/bridge_publish/out/bridge_publish}")
+[ -n "${PUBLISH:-}" ] || (cd "$here/crates/bridge_publish" && rt run -- none none > "$work/build.log" 2>&1 || true)
+[ -x "$publish" ] || { tail "$work/build.log"; exit 1; }
 
 cat > "$work/strangers.py" <<'PY'
 import datetime, os, sys
 
 from measure import answers, framed
 
-bridge, work = sys.argv[1:]
+bridge, publish, work = sys.argv[1:]
 os.chdir(work)
 MEDIA = '#EXTM3U\n#EXT-X-TARGETDURATION:4\n#EXT-X-MAP:URI="i.mp4"\n#EXTINF:4,\ns.m4s\n#EXT-X-ENDLIST\n'
 BASE = "https://h.example/"
@@ -184,5 +188,22 @@ for name, words, base, what in streams:
     seconds, megabytes, last = framed(name, [bridge, *words, f"--base={base}"])
     print(f"| {what} | {os.path.getsize(name) / 1e6:.1f} | `{last}` | {seconds:.2f} | {megabytes:.0f} |")
     assert seconds <= 5 and megabytes <= 1_200, what
+
+def followed(folder, name, first, seconds):
+    """A folder with a followed playlist of 85,000 segments, each dated so much later than the one before."""
+    os.mkdir(folder)
+    master(f"{folder}/master.m3u8", ['#EXT-X-VERSION:6\n#EXT-X-STREAM-INF:BANDWIDTH=1000,CODECS="avc1.42c01e"\nt0.m3u8\n'])
+    return file(f"{folder}/t0.m3u8", "#EXTM3U\n#EXT-X-VERSION:6\n#EXT-X-TARGETDURATION:2\n#EXT-X-MEDIA-SEQUENCE:0\n"
+                '#EXT-X-DISCONTINUITY-SEQUENCE:0\n#EXT-X-MAP:URI="https://h.e/i.mp4"\n',
+                *(f"#EXT-X-PROGRAM-DATE-TIME:{instant(first + seconds * k)[:-1]}.000Z\n#EXTINF:2.000000,\nhttps://h.e/{name}{k}.m4s\n"
+                  for k in range(85_000)))
+
+print("\n| served and new playlist | MB | answer | s | MB of memory |\n|---|---|---|---|---|")
+for seconds, what in ((2, "85,000 segments each that share none"), (0, "the same, all of one date")):
+    size = max(os.path.getsize(followed(f"{folder}{seconds}", folder, first, seconds))
+               for folder, first in (("served", 0), ("run", 85_000 * seconds)))
+    took, megabytes, answer = answers([publish, f"run{seconds}", f"served{seconds}"])
+    print(f"| {what} | {size / 1e6:.1f} | `{answer}` | {took:.2f} | {megabytes:.0f} |", flush=True)
+    assert size <= 8_388_608 and took <= 5 and megabytes <= 300, what
 PY
-python3 "$work/strangers.py" "$bridge" "$work"
+python3 "$work/strangers.py" "$bridge" "$publish" "$work"

@@ -4,7 +4,7 @@ _bridge() {
     _init_completion -s -n : || return
     local command=${words[1]} options wanted
     if ((cword == 1)); then
-        mapfile -t COMPREPLY < <(compgen -W 'hls hls-index dash dash-times show check agree reload make follow follow-hls' -- "$cur")
+        mapfile -t COMPREPLY < <(compgen -W 'hls hls-index dash dash-times show check compare agree reload make follow follow-hls' -- "$cur")
         return
     fi
     case $command in
@@ -13,18 +13,20 @@ _bridge() {
     dash | dash-times | follow-hls) options='--base= --out=' wanted=m3u8 ;;
     show) options='--base= --now= --digits=' wanted='@(mpd|m3u8)' ;;
     check) options='--base= --digits=' wanted='@(mpd|m3u8)' ;;
+    compare) options='--base= --now= --digits= --within= --all=' wanted='@(mpd|m3u8)' ;;
     agree) options='--base=' wanted=mpd ;;
     reload) options='--base=' wanted=m3u8 ;;
     make) options='--seed= --out= --digits=' wanted= ;;
     follow) options='--base= --out= --digits=' wanted=mpd ;;
     *) return ;;
     esac
+    options+=' --explain'
     case $prev in
     --base) mapfile -t COMPREPLY < <(compgen -W 'http:// https://' -- "$cur"); compopt -o nospace; return ;;
     --out) _filedir -d; return ;;
     --digits) mapfile -t COMPREPLY < <(compgen -W '3 4 5 6 7 8 9' -- "$cur"); return ;;
     --now) mapfile -t COMPREPLY < <(compgen -W "$(date -u +%FT%TZ)" -- "$cur"); return ;;
-    --seed) return ;;
+    --seed | --within | --all) return ;;
     esac
     $split && return
     if [[ $cur == -* ]]; then
@@ -32,7 +34,7 @@ _bridge() {
         # Options can't be repeated.
         for word in $options; do [[ " ${words[*]} " == *" ${word%=}"[=\ ]* ]] || kept+=("$word"); done
         mapfile -t COMPREPLY < <(compgen -W "${kept[*]}" -- "$cur")
-        compopt -o nospace
+        [[ ${COMPREPLY[0]-} == --explain ]] || compopt -o nospace
     elif [ -n "$wanted" ]; then
         _filedir "$wanted"
     fi

@@ -1,10 +1,12 @@
 -- What words say of the folder and the digits of a job.
 use Rattle.bridge_jobs.specs.declared.jobs.Job.TheVariants as job
 use Rattle.bridge_jobs.specs.declared.verb.Verb.TheVariants as verb
-use Rattle.std.proofs.Common.{◌≡◌, ℕ, ◌-◌, ◌≤◌, ◌&&◌, IsTrue, List, [], ◌∷◌, Option, None, Some, IfSome, option_map, refl, arith, inl, inr}
+use Rattle.std.proofs.Common.{◌≡◌, ℕ, ℤ, ◌-◌, ◌≤◌, ◌&&◌, IsTrue, List, [], ◌∷◌, Option, None, Some, IfSome, option_map, refl, arith, inl, inr}
 use Rattle.std.proofs.{lemmas.Bool.cases_Bool, lemmas.Bool.Decides.nat_tests}
 use Rattle.std.specs.Prelude.{nat_le, codes, unwrap_or}
-use Rattle.bridge_jobs.specs.declared.{jobs.Job.Job, jobs.CheckJob.CheckJob, jobs.MasterJob.MasterJob, verb.Verb.Verb}
+use Rattle.bridge_jobs.specs.declared.{jobs.Job.Job, jobs.CheckJob.CheckJob, jobs.CompareJob.CompareJob, jobs.MasterJob.MasterJob}
+use Rattle.bridge_jobs.specs.declared.verb.Verb.{Verb}
+use Rattle.bridge_jobs.specs.Jobs.{compare_of, most_of, within_of}
 use Rattle.bridge_jobs.specs.Jobs.{◌>>=◌, agree_of, base_of, check_of, digits_in, digits_of, digits_or_six, file_of, first_verb, folder_in}
 use Rattle.bridge_jobs.specs.Jobs.{follow_of, hls_of, index_of, is_folder, job_by, job_of, make_of, master_of, name_in, now_of, out_of}
 use Rattle.bridge_jobs.specs.{Jobs.{reload_of, show_of}, Verbs.values_of}
@@ -17,6 +19,7 @@ IsBounded (job.Hls j) = IsTrue (is_folder j.out) × (j.digits ≤ 9)
 IsBounded (job.Dash j) = IsTrue (is_name j.master)
 IsBounded (job.HlsIndex j) = IsTrue (is_folder j.out) × (j.digits ≤ 9)
 IsBounded (job.Check j) = IsTrue (is_name j.master)
+IsBounded (job.Compare j) = IsTrue (is_name j.check.master)
 IsBounded (job.DashTimes j) = IsTrue (is_name j.master)
 IsBounded (job.FollowHls j) = IsTrue (is_name j.master)
 IsBounded other = Unit {0}
@@ -125,6 +128,21 @@ check_bounded rows =
     check_in (file_of (codes "mpd") rows) (file_of (codes "master") rows) (base_of rows) (digits_of rows)
     (named_in (first_of (codes "master") rows))
 
+compare_in : (check : Option CheckJob) (now : Option (Option ℤ)) (within most : Option ℕ)
+    → IfSome check (λ (c : CheckJob). IsTrue (is_name c.master))
+    → IfSome (check >>= (λ c. now >>= (λ i.
+    within >>= (λ w. most >>= (λ m. Some (record { check = c; instant = i; within = w; most = m }))))))
+    (λ (j : CompareJob). IsTrue (is_name j.check.master))
+compare_in None now within most is = tt
+compare_in (Some c) None within most is = tt
+compare_in (Some c) (Some i) None most is = tt
+compare_in (Some c) (Some i) (Some w) None is = tt
+compare_in (Some c) (Some i) (Some w) (Some m) is = is
+
+compare_bounded : (rows : List Row) → IfSome (compare_of rows) (λ j. IsTrue (is_name j.check.master))
+unfolding compare_of
+compare_bounded rows = compare_in (check_of rows) (now_of rows) (within_of rows) (most_of rows) (check_bounded rows)
+
 bounded_by : (v : Verb) (rows : List Row) → IfSome (job_by v rows) IsBounded
 bounded_by verb.Hls rows = mapped _ job.Hls (hls_of rows) (λ j is. is) (hls_bounded rows)
 bounded_by verb.Dash rows = mapped _ job.Dash (master_of rows) (λ j is. is) (master_bounded rows)
@@ -137,6 +155,7 @@ bounded_by verb.HlsIndex rows = mapped _ job.HlsIndex (index_of rows) (λ j is. 
 bounded_by verb.DashTimes rows = mapped _ job.DashTimes (master_of rows) (λ j is. is) (master_bounded rows)
 bounded_by verb.Agree rows = free job.Agree (agree_of rows) (λ _. tt)
 bounded_by verb.FollowHls rows = mapped _ job.FollowHls (master_of rows) (λ j is. is) (master_bounded rows)
+bounded_by verb.Compare rows = mapped _ job.Compare (compare_of rows) (λ j is. is) (compare_bounded rows)
 
 pub bounded : (words : List (List ℕ)) → IfSome (job_of words) IsBounded
 unfolding job_of

@@ -36,6 +36,7 @@ not_followed (job.HlsIndex j) one other f = f
 not_followed (job.DashTimes j) one other f = f
 not_followed (job.Agree j) one other f = f
 not_followed (job.FollowHls j) one other f = other j refl
+not_followed (job.Compare j) one other f = f
 
 store_read : (j : Job) → (Follows (Some j) → ⊥) → (i i' r r' : ℕ) → Rose r r' → ReadRose (Some j) i i' r r'
 store_read (job.Hls j) other i i' r r' rose = rose
@@ -49,6 +50,7 @@ store_read (job.HlsIndex j) other i i' r r' rose = rose
 store_read (job.DashTimes j) other i i' r r' rose = rose
 store_read (job.Agree j) other i i' r r' rose = rose
 store_read (job.FollowHls j) other i i' r r' rose = absurd (other tt)
+store_read (job.Compare j) other i i' r r' rose = rose
 
 -- its course is that of its outcome
 pub other_course : (j : Job) → (Follows (Some j) → ⊥) → (files : Option Files) (input : Option (List ℕ))
@@ -64,6 +66,7 @@ other_course (job.HlsIndex j) other files input = refl
 other_course (job.DashTimes j) other files input = refl
 other_course (job.Agree j) other files input = refl
 other_course (job.FollowHls j) other files input = absurd (other tt)
+other_course (job.Compare j) other files input = refl
 
 pub command_blamed : (o : Option Outcome) (j : Job) (told : Ending) (before after : World) → (Follows (Some j) → ⊥)
     → JobEndsAs o told (met before) (met after) → after.report_faults ≡ before.report_faults → IsBlamed (Some j) told before after

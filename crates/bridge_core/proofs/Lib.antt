@@ -5,7 +5,9 @@ pub mod Lies
 pub mod DoneAt
 pub mod Promises
 pub mod MpdPromises
+mod Compared
 pub mod CheckPromises
+pub mod ComparePromises
 pub mod Blamed
 pub mod Worked
 pub mod IndexPromises

@@ -2,7 +2,8 @@
 use Rattle.bridge_jobs.specs.declared.jobs.Job.TheVariants as jobs
 use Rattle.bridge_report.specs.declared.refusal.Refusal.TheVariants as refusal
 use Rattle.bridge_courses.specs.declared.status.Status.TheVariants as status
-use Rattle.std.proofs.Common.{◌≡◌, ◌<◌, ℕ, List, [], ◌∷◌, ◌++◌, map, All, IsTrue, Option, None, Some, IfSome, option_map, Ok, inl, inr}
+use Rattle.std.proofs.Common.{◌≡◌, ◌<◌, ℕ, List, [], ◌∷◌, ◌++◌, map, All, IsTrue, Option, None, Some, IfSome, option_map, Result, Ok, inl}
+use Rattle.std.proofs.Common.{inr}
 use Rattle.std.proofs.{Common.{refl, sym, ◌∙◌, ap, subst, append_assoc, arith}, lemmas.Bool.cases_Bool, lemmas.List.append-nil}
 use Rattle.std.proofs.lemmas.List.Elements.{All-nil, All-cons, All-head, All-tail}
 use Rattle.std.specs.{Prelude.{codes, nat_lt}, Option.option_and_then}
@@ -23,10 +24,12 @@ use Rattle.meaning.proofs.SameLemmas.{Same-wider}
 use Rattle.presentation.specs.{Presented.Presented, Meanings.meaning_of, Ratios.rate_of}
 use Rattle.presentation.proofs.Filling.{ok_under}
 use Rattle.laws_of_playlists.proofs.SameFolders.{file_under}
-use Rattle.bridge_report.specs.Reading.{content_of, media_at, media_in}
+use Rattle.bridge_report.specs.Reading.{Named, content_of, media_at, media_in}
 use Rattle.bridge_playlists.specs.{declared.medias.Medias.Medias, declared.place.StorePlace.StorePlace}
-use Rattle.bridge_playlists.specs.Playlists.{master_in, media_named, media_under, medias_of, medias_with, none_read, presented_at}
-use Rattle.bridge_playlists.specs.Playlists.{presented_by, presented_with, segment_limit, track_kept, tracks_of, with_media, within_limit}
+use Rattle.bridge_playlists.specs.Playlists.{ended, listed_with, master_in, media_named, media_under, medias_of, medias_with, none_read}
+use Rattle.bridge_playlists.specs.Playlists.{presented_at}
+use Rattle.bridge_playlists.specs.Playlists.{presented_by, presented_so_far, presented_with, segment_limit, track_kept, tracks_of}
+use Rattle.bridge_playlists.specs.Playlists.{with_media, within_limit}
 use Rattle.bridge_playlists.specs.Places.{store_place_of}
 use Rattle.bridge_courses.specs.{Courses.{Course, World, files_of as course_files}, Laws.{DoneIsWhole, VerdictKeepsSteps}}
 use Rattle.bridge_courses.specs.Executions.{IsExecution}
@@ -130,12 +133,17 @@ all_seen_again (track ∷ seen) all =
 
 -- ---- the presentation that is read
 
-pub record IsReadFrom (place : StorePlace) (files : Files) (p : Presented) : Type 0 where
+-- the playlists may be taken otherwise than they are
+pub record IsReadFrom (taken : List Media → List Media) (place : StorePlace) (files : Files) (p : Presented) : Type 0 where
   pub tracks : List MasterTrack
   pub medias : List Media
   pub master : IsMaster files place.folder place.url tracks
   pub playlists : ArePlaylists files place.folder tracks medias
-  pub presented : hls_presented_of tracks medias ≡ Ok p
+  pub presented : hls_presented_of tracks (taken medias) ≡ Ok p
+
+abbrev presented_by_all : (taken : List Media → List Media) → StorePlace → Files → Result Presented Named
+presented_by_all taken place files = and_then (content_of place.file files) (λ bytes. and_then (master_in place bytes)
+    (λ tracks. and_then (medias_of place files none_read tracks) (λ medias. presented_by place tracks (taken medias.files))))
 
 module _ (rates : ReadHaveRates) where
   pub master_read : (place : StorePlace) (bytes : List ℕ) (tracks : List MasterTrack) → master_in place bytes ≡ Ok tracks
@@ -148,15 +156,13 @@ module _ (rates : ReadHaveRates) where
       let kept : map track_kept step.value ≡ tracks = (let e = step.then in cc) in
       step.first ∙ ap Ok (sym (all_seen_again step.value (rates bytes place.url step.value step.first)) ∙ ap (map track_seen) kept)
 
-  pub presentation_read : (place : StorePlace) (files : Files) (p : Presented) → IsTrue (is_name place.file)
-      → place.url ≡ place.folder ++ place.file → presented_at place files ≡ Ok p
-      → IsReadFrom place files p
-  unfolding presented_at presented_with presented_by
-  presentation_read place files p named lies is =
-      let first = steps_of (content_of place.file files) (λ bytes. and_then (master_in place bytes) (presented_with place files)) p is in
-      let second = steps_of (master_in place first.value) (presented_with place files) p first.then in
-      let third = steps_of (medias_of place files none_read second.value) (λ medias. presented_by place second.value medias.files) p
-      second.then in
+  read_from : (taken : List Media → List Media) (place : StorePlace) (files : Files) (p : Presented) → IsTrue (is_name place.file)
+      → place.url ≡ place.folder ++ place.file → presented_by_all taken place files ≡ Ok p → IsReadFrom taken place files p
+  unfolding presented_by
+  read_from taken place files p named lies is =
+      let first = steps_of (content_of place.file files) _ p is in
+      let second = steps_of (master_in place first.value) _ p first.then in
+      let third = steps_of (medias_of place files none_read second.value) _ p second.then in
       let all = gathered place files none_read second.value third.value third.first in
       let found : file_at files place.folder place.url ≡ Some first.value =
       ap (file_at files place.folder) lies ∙ file_under files place.folder place.file named
@@ -166,10 +172,20 @@ module _ (rates : ReadHaveRates) where
         medias = all.later;
         master = record { bytes = first.value; found = found; read = master_read place first.value second.value second.first };
         playlists = all.playlists;
-        presented = ap (hls_presented_of second.value) (sym all.behind)
-            ∙ ok_under refusal.Hls (hls_presented_of second.value third.value.files) p
-            (ok_under _ (told_as refusal.Hls (hls_presented_of second.value third.value.files)) p third.then);
+        presented = ap (λ medias. hls_presented_of second.value (taken medias)) (sym all.behind)
+            ∙ ok_under refusal.Hls (hls_presented_of second.value (taken third.value.files)) p
+            (ok_under _ (told_as refusal.Hls (hls_presented_of second.value (taken third.value.files))) p third.then);
       }
+
+  pub presentation_read : (place : StorePlace) (files : Files) (p : Presented) → IsTrue (is_name place.file)
+      → place.url ≡ place.folder ++ place.file → presented_at place files ≡ Ok p → IsReadFrom (λ medias. medias) place files p
+  unfolding presented_at presented_with
+  presentation_read place files p named lies is = read_from (λ medias. medias) place files p named lies is
+
+  pub listing_read : (place : StorePlace) (files : Files) (p : Presented) → IsTrue (is_name place.file)
+      → place.url ≡ place.folder ++ place.file → presented_so_far place files ≡ Ok p → IsReadFrom (map ended) place files p
+  unfolding presented_so_far listed_with
+  listing_read place files p named lies is = read_from (map ended) place files p named lies is
 
 -- ---- the promise
 

@@ -7,7 +7,8 @@ use Rattle.bridge_io.specs.{Fault.Rose, Outside.Files}
 use Rattle.bridge_jobs.specs.{declared.jobs.Job.Job, Jobs.job_of}
 use Rattle.bridge_courses.specs.{declared.ending.Ending.Ending, Executions.{status_of, words_line}, Courses.{Course, World}}
 use Rattle.bridge_report.specs.Outcomes.{Outcome, Ends, course_by}
-use Rattle.bridge_core.specs.{Check.check_outcome, Dash.dash_outcome, Follow.followed_course, Hls.hls_outcome, Make.make_outcome}
+use Rattle.bridge_compare.specs.{Check.check_outcome, Compare.compare_outcome}
+use Rattle.bridge_core.specs.{Dash.dash_outcome, Follow.followed_course, Hls.hls_outcome, Make.make_outcome}
 use Rattle.bridge_core.specs.Show.{show_outcome}
 use Rattle.bridge_playlists.specs.Reload.{reload_outcome}
 use Rattle.bridge_reach.specs.{Agree.agree_outcome, DashTimes.dash_times_outcome, Index.index_outcome, Rounds.rounds_course}
@@ -21,6 +22,7 @@ outcome_of_job (Some (job.Hls j)) files = hls_outcome j files
 outcome_of_job (Some (job.Dash j)) files = dash_outcome j files
 outcome_of_job (Some (job.Show j)) files = show_outcome j files
 outcome_of_job (Some (job.Check j)) files = check_outcome j files
+outcome_of_job (Some (job.Compare j)) files = compare_outcome j files
 outcome_of_job (Some (job.Reload j)) files = reload_outcome j files
 outcome_of_job (Some (job.Make j)) files = make_outcome j
 outcome_of_job (Some (job.HlsIndex j)) files = index_outcome j files
@@ -57,6 +59,7 @@ ReadsNoFile other = ⊥
 abbrev pub WritesNoFile : Option Job → Type 0
 WritesNoFile (Some (job.Show j)) = Unit {0}
 WritesNoFile (Some (job.Check j)) = Unit {0}
+WritesNoFile (Some (job.Compare j)) = Unit {0}
 WritesNoFile (Some (job.Agree j)) = Unit {0}
 WritesNoFile (Some (job.Reload j)) = Unit {0}
 WritesNoFile other = ⊥

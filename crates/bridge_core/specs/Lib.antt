@@ -1,4 +1,4 @@
-pub mod Check
+pub mod ComparePromises
 pub mod Courses
 pub mod Dash
 pub mod Follow

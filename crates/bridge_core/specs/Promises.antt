@@ -11,7 +11,8 @@ use Rattle.meaning.specs.{Meanings.Meaning, Differences.first_difference, Same.{
 use Rattle.meaning.specs.declared.difference.Difference.{Difference}
 use Rattle.mpd_presentation.specs.Meanings.{dash_meaning}
 use Rattle.bridge_playlists.specs.{declared.place.StorePlace.StorePlace, Places.store_place_of}
-use Rattle.bridge_core.specs.{Check.differ_line, Courses.course_of}
+use Rattle.bridge_compare.specs.Check.{differ_line}
+use Rattle.bridge_core.specs.Courses.{course_of}
 use Rattle.bridge_report.specs.Bases.{file_url}
 
 -- the URL of the master playlist

@@ -1,4 +1,5 @@
 //! Laws of the program's runs. The functions do nothing: what they ensure is the law.
+ghost use Rattle.bridge_core.specs.ComparePromises.{ComparedAsChecked, ComparedTellsAll};
 ghost use Rattle.bridge_core.specs.IndexPromises.{WrittenMeansTheIndexes};
 ghost use Rattle.bridge_core.specs.Promises.{DifferIsApart, DoneIsAgreed, WrittenMeansTheMpd, WrittenMpdMeansThePlaylists};
 ghost use Rattle.bridge_core.specs.TimesPromises.{DifferHasAnother, DoneHasTheFilesTimes, WrittenHasTheFilesTimes};
@@ -6,10 +7,11 @@ ghost use Rattle.bridge_core.specs.TimesPromises.{DifferHasAnother, DoneHasTheFi
 use bridge_courses::{a_verdict_keeps_the_steps, done_is_whole};
 use bridge_jobs::laws::folders_hold_their_files;
 use bridge_reach::{what_agrees_has_the_files_times, what_is_written_has_the_files_times};
+use differences::{the_first_is_the_first_difference, the_same_deviate_alike};
 use hls_media::what_is_read_is_bounded;
 use laws_of_mpds::{
-    presented_mean_their_files, read_tracks_can_be_written, what_is_read_has_addresses,
-    written_playlists_mean_the_same as written_mpds_mean_the_same,
+    listed_mean_their_files, presented_mean_their_files, read_tracks_can_be_written,
+    what_is_read_has_addresses, written_playlists_mean_the_same as written_mpds_mean_the_same,
 };
 use laws_of_playlists::{
     indexed_parts_can_be_written, indexes_mean_what_they_list, read_trees_are_of_bytes,
@@ -80,6 +82,28 @@ pub fn what_is_checked_agrees()
     read_tracks_can_be_written();
     presented_mean_their_files();
     agreeing_has_no_difference();
+}
+
+/// Where a run of `compare` isn't rejected, its report is of all differences of what the MPD means, a live one at the command's
+/// time, and of what the playlists mean: the first ones in order, the greatest one of time for each track, and how many there
+/// are, and it is done where there is none. A time differs where it is neither equal, nor rounded down to the unit of the
+/// printed durations, nor within the tolerance (ISO/IEC 23009-1, 5.3; RFC 8216, 4.3).
+pub fn what_is_compared_is_all_that_differs()
+    ensures { ComparedTellsAll }
+{
+    presentations_mean_their_mpd();
+    read_tracks_can_be_written();
+    presented_mean_their_files();
+    listed_mean_their_files();
+    the_same_deviate_alike();
+}
+
+/// Without a time and without a tolerance `compare` is done exactly where `check` is, tells a difference where it does, and its
+/// first line is of the difference that `check` tells.
+pub fn comparing_is_checking()
+    ensures { ComparedAsChecked }
+{
+    the_first_is_the_first_difference();
 }
 
 /// Where a run of `dash-times` succeeds, the files are the previous ones plus its MPD, in which each SegmentList has the timescale of

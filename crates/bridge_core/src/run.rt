@@ -13,7 +13,8 @@ ghost use Rattle.bridge_core.specs.Courses.{Follows, IsBlamed, ReadRose, ReadsNo
 ghost use Rattle.bridge_core.specs.Courses.{course_of, course_of_job, outcome_of_job};
 ghost use Rattle.bridge_core.specs.Reports.{TellsItsEnd};
 
-use crate::{check, dash, follow, hls, make, show};
+use crate::{dash, follow, hls, make, show};
+use bridge_compare::{run_check, run_compare};
 use bridge_courses::{Ending, Status, tell};
 use bridge_io::{Ledger, NoMemory, Sink, Source, Steps, Store, Text};
 use bridge_jobs::{Job, job};
@@ -175,7 +176,8 @@ fn run_command<F: Store, L: Ledger>(
         Job::Dash(job) => dash::run(alloc, job, store, steps),
         Job::DashTimes(job) => run_dash_times(alloc, job, store, steps),
         Job::Show(job) => show::run(alloc, job, store, steps),
-        Job::Check(job) => check::run(alloc, job, store, steps),
+        Job::Check(job) => run_check(alloc, job, store, steps),
+        Job::Compare(job) => run_compare(alloc, job, store, steps),
         Job::Agree(job) => run_agree(alloc, job, store, steps),
         Job::Reload(job) => run_reload(alloc, job, store),
         Job::Follow(_) | Job::FollowHls(_) => unreachable!(),

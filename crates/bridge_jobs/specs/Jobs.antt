@@ -1,13 +1,15 @@
 -- The command of a command line.
 use Rattle.bridge_jobs.specs.declared.verb.Verb.TheVariants as verb
 use Rattle.bridge_jobs.specs.declared.jobs.Job.TheVariants as job
-use Rattle.std.specs.Prelude.{ℕ, ℤ, ◌-◌, ◌&&◌, nat_le, Bool, codes, List, [], ◌∷◌, length, if◌then◌else◌, Option, Some, None}
+use Rattle.std.specs.Prelude.{ℕ, ℤ, ◌-◌, ◌^◌, ◌==◌, ◌&&◌, ◌||◌, nat_le, Bool, codes, List, [], ◌∷◌, ◌++◌, length, if◌then◌else◌, Option, Some, None}
+use Rattle.std.specs.{Char.is_ascii_digit, List.list_all}
 use Rattle.std.specs.{Prelude.{option_and_then, option_map, unwrap_or, IfSome, IsTrue}, Result.result_ok}
 use Rattle.clap.specs.Words.{Row, Text, first_of}
-use Rattle.iso_time.specs.Instant.{instant_of, IsReadable}
+use Rattle.iso_time.specs.{Duration.duration_of, Instant.{instant_of, IsReadable}}
 use Rattle.bridge_io.specs.Names.{is_name}
 use Rattle.bridge_jobs.specs.{declared.verb.Verb.Verb, declared.jobs.Job.Job, Numbers.decimal_of, Verbs.{verb_of, values_of}}
 use Rattle.bridge_jobs.specs.declared.jobs.{AgreeJob.AgreeJob, CheckJob.CheckJob, FollowJob.FollowJob, HlsJob.HlsJob, IndexJob.IndexJob}
+use Rattle.bridge_jobs.specs.declared.jobs.CompareJob.{CompareJob}
 use Rattle.bridge_jobs.specs.declared.jobs.{MakeJob.MakeJob, MasterJob.MasterJob, ReloadJob.ReloadJob, ShowJob.ShowJob}
 
 infixl 10 ◌>>=◌
@@ -139,6 +141,45 @@ agree_of rows = do
   base ← base_of rows
   Some (record { mpd = mpd; base = base })
 
+-- the decimals of a number of seconds, of which the first nine count, in nanoseconds: at most 10 seconds
+abbrev pub is_decimal_byte : ℕ → Bool
+is_decimal_byte b = is_ascii_digit b || b == 46
+
+abbrev pub at_most_ten_seconds : ℕ → Option ℕ
+at_most_ten_seconds nanos = if nat_le nanos (10 ^ 10) then Some nanos else None
+
+abbrev pub seconds_in : Text → Option ℕ
+seconds_in text = if list_all is_decimal_byte text
+    then result_ok (duration_of (codes "PT" ++ text ++ codes "S")) >>= at_most_ten_seconds else None
+
+-- by default none
+abbrev pub seconds_or_none : Option Text → Option ℕ
+seconds_or_none None = Some 0
+seconds_or_none (Some text) = seconds_in text
+
+unfoldable pub within_of : List Row → Option ℕ
+within_of rows = seconds_or_none (first_of (codes "within") rows)
+
+-- 1 to 100,000
+abbrev pub some_differences : ℕ → Option ℕ
+some_differences n = if nat_le 1 n && nat_le n 100000 then Some n else None
+
+-- by default 100
+abbrev pub count_or_hundred : Option Text → Option ℕ
+count_or_hundred None = Some 100
+count_or_hundred (Some text) = decimal_of 6 text >>= some_differences
+
+unfoldable pub most_of : List Row → Option ℕ
+most_of rows = count_or_hundred (first_of (codes "all") rows)
+
+unfoldable pub compare_of : List Row → Option CompareJob
+compare_of rows = do
+  check ← check_of rows
+  instant ← now_of rows
+  within ← within_of rows
+  most ← most_of rows
+  Some (record { check = check; instant = instant; within = within; most = most })
+
 abbrev pub job_by : Verb → List Row → Option Job
 job_by verb.Hls rows = option_map job.Hls (hls_of rows)
 job_by verb.Dash rows = option_map job.Dash (master_of rows)
@@ -151,6 +192,7 @@ job_by verb.HlsIndex rows = option_map job.HlsIndex (index_of rows)
 job_by verb.DashTimes rows = option_map job.DashTimes (master_of rows)
 job_by verb.Agree rows = option_map job.Agree (agree_of rows)
 job_by verb.FollowHls rows = option_map job.FollowHls (master_of rows)
+job_by verb.Compare rows = option_map job.Compare (compare_of rows)
 
 -- the first word's command
 abbrev pub first_verb : List Text → Option Verb
@@ -183,6 +225,7 @@ HasFolder job = IfSome (folder_of job) (λ folder. IsTrue (is_folder folder))
 abbrev pub now_of_job : Job → Option ℤ
 now_of_job (job.Hls j) = j.instant
 now_of_job (job.Show j) = j.instant
+now_of_job (job.Compare j) = j.instant
 now_of_job other = None
 
 -- and it is one that can be read and written

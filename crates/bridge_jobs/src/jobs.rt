@@ -1,6 +1,6 @@
 // Commands.
 use bridge_io::{Name, Text};
-use exact_time::Digits;
+use exact_time::{Digits, Nanos};
 use iso_time::Instant;
 
 /// A command with its arguments.
@@ -32,6 +32,8 @@ pub enum Job {
     Agree(AgreeJob),
     /// Converts snapshots of live media playlists to an MPD.
     FollowHls(MasterJob),
+    /// Lists every difference of what an MPD and a master playlist mean.
+    Compare(CompareJob),
 }
 
 /// The arguments of `hls`.
@@ -141,4 +143,17 @@ pub struct AgreeJob {
     pub mpd: Name,
     /// The URL of the store's root.
     pub base: Text,
+}
+
+/// The arguments of `compare`.
+#[derive(Drop)]
+pub struct CompareJob {
+    /// What is compared, as by `check`.
+    pub check: CheckJob,
+    /// The time at which a live MPD is read.
+    pub instant: Option<Instant>,
+    /// The greatest difference of two times that counts as none, at most 10 seconds.
+    pub within: Nanos,
+    /// How many differences are listed at most: 1 to 100,000.
+    pub most: usize,
 }

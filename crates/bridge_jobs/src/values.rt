@@ -1,7 +1,9 @@
 // The values of a command's parameters.
 ghost use Rattle.std.specs.Prelude.{◌≡◌, ℕ, List, map, option_map, IfOk, IfSome, IsTrue};
 ghost use Rattle.bridge_jobs.specs.Given.{IsGiven};
-ghost use Rattle.bridge_jobs.specs.Jobs.{base_of, digits_in, digits_of, file_of, folder_in, is_folder, name_in, now_of, out_of, seed_of};
+ghost use Rattle.bridge_jobs.specs.Jobs.{base_of, digits_in, digits_of, file_of, folder_in, is_decimal_byte, is_folder, most_of};
+ghost use Rattle.bridge_jobs.specs.Jobs.{name_in, now_of, out_of, seconds_in, seed_of, within_of};
+ghost use Rattle.std.specs.List.{list_all};
 ghost use Rattle.bridge_jobs.specs.Verbs.{values_of};
 ghost use Rattle.iso_time.specs.Instant.{IsReadable};
 
@@ -11,8 +13,8 @@ use crate::verb::Verb;
 use bridge_io::{Name, Text};
 use clap::ArgMatches;
 use clap::error::ErrorKind;
-use exact_time::Digits;
-use iso_time::{Instant, read_instant};
+use exact_time::{Digits, Nanos};
+use iso_time::{Instant, read_duration, read_instant};
 use std::alloc::Global;
 use std::marker::Model;
 
@@ -33,6 +35,9 @@ impl<'a> Model for Values<'a> {
 
 /// The most bytes that the name of a directory has, so that the names of the files in it are valid.
 const MAX_FOLDER: usize = 242;
+
+/// The greatest tolerance of times: 10 seconds.
+const MAX_TOLERANCE: u64 = 10_000_000_000;
 
 impl<'a> Values<'a> {
     ghost use Rattle.clap.specs.Words.{first_of};
@@ -118,6 +123,31 @@ impl<'a> Values<'a> {
         let text = self.text("seed").ok_or(WordsFault::NoJob)?;
         decimal(text.as_bytes(), 10).ok_or(WordsFault::NoJob)
     }
+
+    /// The greatest difference of times that counts as none, at most 10 seconds: by default only equal times.
+    #[tactic(auto, unfolding(crate::specs::Jobs::within_of))]
+    pub fn within(&self, alloc: Global) -> Result<Nanos, WordsFault>
+        ensures { IsGiven (within_of self.now) result }
+    {
+        match self.text("within") {
+            Some(text) => seconds(alloc, text),
+            None => Ok(Nanos(0)),
+        }
+    }
+
+    /// How many differences are listed at most: 1 to 100,000, by default 100.
+    #[tactic(auto, unfolding(crate::specs::Jobs::most_of))]
+    pub fn most(&self) -> Result<usize, WordsFault>
+        ensures { IsGiven (most_of self.now) result }
+    {
+        let Some(text) = self.text("all") else {
+            return Ok(100);
+        };
+        match decimal(text.as_bytes(), 6) {
+            Some(count) if count >= 1 && count <= 100_000 => Ok(count as usize),
+            _ => Err(WordsFault::NoJob),
+        }
+    }
 }
 
 fn folder(alloc: Global, text: &str) -> Result<Name, WordsFault>
@@ -137,4 +167,26 @@ fn digits(text: &str) -> Option<Digits>
         [digit @ b'3'..=b'9'] => Digits::of(digit - b'0'),
         _ => None,
     }
+}
+
+/// A number of seconds with decimals, of which the first nine count.
+fn seconds(alloc: Global, text: &str) -> Result<Nanos, WordsFault>
+    ensures { IsGiven (seconds_in text.now) result }
+{
+    if !are_decimal(text.as_bytes()) {
+        return Err(WordsFault::NoJob);
+    }
+    let duration = format!(in alloc; "PT{text}S")?;
+    match read_duration(duration.as_str()) {
+        Ok(nanos) if nanos.0 <= MAX_TOLERANCE => Ok(nanos),
+        _ => Err(WordsFault::NoJob),
+    }
+}
+
+fn are_decimal(bytes: &[u8]) -> bool
+    ensures { result ≡ list_all is_decimal_byte bytes.now }
+{
+    bytes
+        .iter()
+        .all(|byte| byte.is_ascii_digit() || *byte == b'.')
 }

@@ -30,6 +30,8 @@ pub enum Verb {
     Agree,
     /// Converts snapshots of live playlists to an MPD.
     FollowHls,
+    /// Lists every difference of an MPD and a master playlist.
+    Compare,
 }
 
 /// A parameter of a command, by its name.
@@ -87,6 +89,16 @@ static HLS_INDEX: [Parameter; 4] = [
 
 static AGREE: [Parameter; 2] = [Positional("mpd"), Required("base")];
 
+static COMPARE: [Parameter; 7] = [
+    Positional("mpd"),
+    Positional("master"),
+    Required("base"),
+    Optional("now"),
+    Optional("digits"),
+    Optional("within"),
+    Optional("all"),
+];
+
 static MAKE: [Parameter; 3] = [Required("seed"), Optional("out"), Optional("digits")];
 
 impl Parameter {
@@ -125,6 +137,7 @@ impl Verb {
             "dash-times" => Some(Verb::DashTimes),
             "agree" => Some(Verb::Agree),
             "follow-hls" => Some(Verb::FollowHls),
+            "compare" => Some(Verb::Compare),
             _ => None,
         }
     }
@@ -144,6 +157,7 @@ impl Verb {
             Verb::DashTimes => "dash-times",
             Verb::Agree => "agree",
             Verb::FollowHls => "follow-hls",
+            Verb::Compare => "compare",
         }
     }
 
@@ -160,6 +174,7 @@ impl Verb {
             Verb::Make => &MAKE,
             Verb::HlsIndex => &HLS_INDEX,
             Verb::Agree => &AGREE,
+            Verb::Compare => &COMPARE,
         }
     }
 

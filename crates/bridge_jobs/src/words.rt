@@ -1,13 +1,15 @@
 // Parsing of command lines.
 ghost use Rattle.std.specs.Prelude.{◌≡◌, IfOk, IfSome, IsTrue, map};
 ghost use Rattle.bridge_jobs.specs.Given.{IsGiven, IsJob};
-ghost use Rattle.bridge_jobs.specs.Jobs.{HasFolder, HasReadableNow, agree_of, check_of, first_verb, follow_of, hls_of, index_of, is_folder};
+ghost use Rattle.bridge_jobs.specs.Jobs.{HasFolder, HasReadableNow, agree_of, check_of, compare_of, first_verb, follow_of, hls_of};
+ghost use Rattle.bridge_jobs.specs.Jobs.{index_of, is_folder};
 ghost use Rattle.bridge_jobs.specs.Jobs.{job_by, job_of, make_of, master_of, reload_of, show_of};
 ghost use Rattle.iso_time.specs.Instant.{IsReadable};
 
 use crate::given::WordsFault;
 use crate::jobs::{
-    AgreeJob, CheckJob, FollowJob, HlsJob, IndexJob, Job, MakeJob, MasterJob, ReloadJob, ShowJob,
+    AgreeJob, CheckJob, CompareJob, FollowJob, HlsJob, IndexJob, Job, MakeJob, MasterJob,
+    ReloadJob, ShowJob,
 };
 use crate::values::Values;
 use crate::verb::Verb;
@@ -72,6 +74,7 @@ fn job_by(alloc: Global, verb: Verb, values: &Values) -> Result<Job, WordsFault>
         Verb::DashTimes => Job::DashTimes(master(alloc, values)?),
         Verb::Agree => Job::Agree(agree(alloc, values)?),
         Verb::FollowHls => Job::FollowHls(master(alloc, values)?),
+        Verb::Compare => Job::Compare(compare(alloc, values)?),
     };
     Ok(job)
 }
@@ -184,5 +187,18 @@ fn agree(alloc: Global, values: &Values) -> Result<AgreeJob, WordsFault>
     Ok(AgreeJob {
         mpd: values.file(alloc, "mpd")?,
         base: values.base(alloc)?,
+    })
+}
+
+#[tactic(auto, unfolding(crate::specs::Jobs::compare_of))]
+fn compare(alloc: Global, values: &Values) -> Result<CompareJob, WordsFault>
+    ensures job { IsGiven (compare_of values.now) result }
+    ensures readable { IfOk result (λ job. IfSome job.instant IsReadable) }
+{
+    Ok(CompareJob {
+        check: check(alloc, values)?,
+        instant: values.now()?,
+        within: values.within(alloc)?,
+        most: values.most()?,
     })
 }

@@ -12,7 +12,8 @@ use Rattle.bridge_playlists.specs.Reload.{reload_outcome, reload_under, urls_of}
 use Rattle.bridge_reach.specs.{Agree.{agree_at, agree_outcome}, DashTimes.{dash_times_at, dash_times_outcome}}
 use Rattle.bridge_reach.specs.{Index.{index_at, index_outcome}, Rounds.{rounds_at, rounds_course, rounds_of}}
 use Rattle.bridge_core.specs.Courses.{course_of, course_of_job}
-use Rattle.bridge_core.specs.{Check.{check_at, check_outcome, places_of}, Dash.{dash_at, dash_outcome}}
+use Rattle.bridge_compare.specs.{Check.{check_at, check_outcome, places_of}, Compare.{compare_at, compare_outcome}}
+use Rattle.bridge_core.specs.{Dash.{dash_at, dash_outcome}}
 use Rattle.bridge_core.specs.{Follow.{follow_at, followed_course}, Hls.{hls_at, hls_outcome}, Make.{make_at, make_outcome, source_place}}
 use Rattle.bridge_core.specs.Show.{show_at, show_outcome}
 
@@ -39,12 +40,13 @@ any_way f (Some x) without with_one = with_one x
 
 job_is_known : (j : Option Job) (files : Files) (input : List ℕ) → IsSome (course_of_job j (Some files) (Some input))
 unfolding hls_outcome dash_outcome show_outcome check_outcome reload_outcome make_outcome
-    index_outcome dash_times_outcome agree_outcome followed_course rounds_course
+    compare_outcome index_outcome dash_times_outcome agree_outcome followed_course rounds_course
 job_is_known None files input = refl
 job_is_known (Some (job.Hls j)) files input = asked (hls_at j (Some files)) (store_place_of j.base j.mpd) (λ p. refl)
 job_is_known (Some (job.Dash j)) files input = asked (dash_at j (Some files)) (store_place_of j.base j.master) (λ p. refl)
 job_is_known (Some (job.Show j)) files input = asked (show_at j (Some files)) (store_place_of j.base j.file) (λ p. refl)
 job_is_known (Some (job.Check j)) files input = asked (check_at j (Some files)) (places_of j) (λ p. refl)
+job_is_known (Some (job.Compare j)) files input = asked (compare_at j (Some files)) (places_of j.check) (λ p. refl)
 job_is_known (Some (job.Reload j)) files input =
     mapped course_by _ (any_way (λ urls. reload_under j urls (Some files)) (urls_of j) refl (λ urls. refl))
 job_is_known (Some (job.Make j)) files input = asked (make_at j) source_place (λ p. refl)

@@ -1,6 +1,6 @@
 -- A master playlist with the media playlists that it mentions, and their presentation.
 use Rattle.bridge_report.specs.declared.refusal.Refusal.TheVariants as refusal
-use Rattle.std.specs.Prelude.{◌≡◌, ◌≤◌, ℕ, ◌+◌, nat_lt, List, [], ◌∷◌, ◌++◌, length, map, sum_by, All, if◌then◌else◌, Option, Some, None}
+use Rattle.std.specs.Prelude.{◌≡◌, ◌≤◌, ℕ, ◌+◌, nat_lt, true, List, [], ◌∷◌, ◌++◌, length, map, sum_by, All, if◌then◌else◌, Option, Some, None}
 use Rattle.std.specs.Prelude.{option_map, Result, Ok, Err}
 use Rattle.bridge_io.specs.{Answer.{and_then, told_as}, Outside.Files}
 use Rattle.url_parts.specs.Addresses.{local_name_of}
@@ -89,6 +89,27 @@ presented_in place files bytes = and_then (master_in place bytes) (presented_wit
 -- the presentation of the master playlist at a location, or the first error
 unfoldable pub presented_at : StorePlace → Files → Result Presented Named
 presented_at place files = and_then (content_of place.file files) (presented_in place files)
+
+-- ---- the presentation of playlists that may be live
+
+-- a playlist as if it were ended
+abbrev pub ended : Media → Media
+ended media = record media { ended = true }
+
+abbrev pub all_ended : Medias → Medias
+all_ended medias = record { files = map ended medias.files; segments = medias.segments }
+
+-- the presentation of what the playlists list
+unfoldable pub listed_with : StorePlace → Files → List MasterTrack → Result Presented Named
+listed_with place files tracks =
+    and_then (medias_of place files none_read tracks) (λ medias. presented_by place tracks (all_ended medias).files)
+
+abbrev pub listed_in : StorePlace → Files → (bytes : List ℕ) → Result Presented Named
+listed_in place files bytes = and_then (master_in place bytes) (listed_with place files)
+
+-- of the master playlist at a location, each of whose playlists is taken as if it were ended, or the first error
+unfoldable pub presented_so_far : StorePlace → Files → Result Presented Named
+presented_so_far place files = and_then (content_of place.file files) (listed_in place files)
 
 -- The playlists are bounded, and have no more segments than the limit.
 pub record AreCounted (medias : Medias) : Type 0 where

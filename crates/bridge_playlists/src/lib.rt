@@ -9,5 +9,5 @@ mod reload;
 
 pub use medias::{Medias, base_at};
 pub use place::{StorePlace, store_place_of};
-pub use presented::{master_at, presented_at, presented_in};
+pub use presented::{master_at, presented_at, presented_in, presented_so_far};
 pub use reload::run_reload;

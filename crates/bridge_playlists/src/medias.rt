@@ -1,5 +1,5 @@
 // The media playlists of a master playlist's tracks.
-ghost use Rattle.std.specs.Prelude.{◌≡◌, IfOk};
+ghost use Rattle.std.specs.Prelude.{◌≡◌, IfOk, map};
 ghost use Rattle.bridge_io.specs.Answer.{Gives};
 ghost use Rattle.hls_media.specs.Laws.{IsBounded};
 ghost use Rattle.bridge_report.specs.Reading.{IsNoReadFault, ReadsAs, halted};
@@ -83,6 +83,31 @@ fn added(alloc: Global, place: &StorePlace, medias: Medias, media: Media) -> Res
     }
     files.push(media)?;
     Ok(Medias { files, segments })
+}
+
+/// The playlists, each as if it were ended.
+pub(crate) fn ended(alloc: Global, medias: Medias) -> Result<Medias, NoMemory>
+    requires { spec.AreCounted medias }
+    ensures medias { IfOk result (λ all. all ≡ spec.all_ended medias) }
+    ensures counted { IfOk result spec.AreCounted }
+{
+    let Medias { files, segments } = medias;
+    let files = ended_files(alloc, files)?;
+    Ok(Medias { files, segments })
+}
+
+fn ended_files(alloc: Global, files: MediaFiles) -> Result<MediaFiles, NoMemory>
+    ensures { IfOk result (λ ended. ended ≡ map spec.ended files) }
+{
+    let mut ended = MediaFiles::new(alloc);
+    let mut rest = files.into_vec().into_iter();
+    while let Some(media) = rest.next() {
+        ended.push(Media {
+            ended: true,
+            ..media
+        })?;
+    }
+    Ok(ended)
 }
 
 /// Reads the playlist at a URL, which is a file under the folder.

@@ -8,7 +8,7 @@ ghost use Rattle.bridge_report.specs.Reading.{IsNoReadFault, ReadsAs, halted};
 ghost use Rattle.bridge_playlists.specs.Playlists as spec;
 
 use crate::StorePlace;
-use crate::medias::{Medias, medias_of};
+use crate::medias::{Medias, ended, medias_of};
 use bridge_io::Store;
 use bridge_report::{Halt, Refusal, content_of};
 use hls_master::{Master, MasterFault, read_master};
@@ -47,6 +47,40 @@ pub fn presented_in<F: Store>(
 {
     let master = master_in(alloc, place, bytes)?;
     presented_with(alloc, place, &master, store)
+}
+
+/// The same of playlists that may be live: each is taken as if it were ended (RFC 8216, 4.3.3.4).
+#[tactic(auto, unfolding(crate::specs::Playlists::presented_so_far))]
+pub fn presented_so_far<F: Store>(
+    alloc: Global,
+    place: &StorePlace,
+    store: &mut F,
+) -> Result<Presentation, Halt>
+    ensures reads { ReadsAs F.Store store.old store.new (λ presentation. presentation) (spec.presented_so_far place.now) result }
+    ensures came { IfOk result CameFromPlaylists }
+    ensures counted { IfOk result (λ p. counted p ≡ Ok (count_of_all p)) }
+{
+    let bytes = content_of(alloc, store, &place.file)?;
+    let master = master_in(alloc, place, bytes.as_slice())?;
+    listed_with(alloc, place, &master, store)
+}
+
+/// Reads the media playlists of a master playlist, which may be live, and returns the presentation of what they list.
+#[tactic(auto, unfolding(crate::specs::Playlists::listed_with))]
+fn listed_with<F: Store>(
+    alloc: Global,
+    place: &StorePlace,
+    master: &Master,
+    store: &mut F,
+) -> Result<Presentation, Halt>
+    requires { All IsSilentTrack master.now }
+    ensures reads { ReadsAs F.Store store.old store.new (λ presentation. presentation)
+        (λ files. spec.listed_with place.now files master.now) result }
+    ensures came { IfOk result CameFromPlaylists }
+    ensures counted { IfOk result (λ p. counted p ≡ Ok (count_of_all p)) }
+{
+    let medias = medias_of(alloc, place, master.tracks().as_slice(), store)?;
+    presented_by(alloc, place, master, &ended(alloc, medias)?)
 }
 
 /// The master playlist at a location, or why its file isn't read. [`Halt::ReadFault`] comes only where the store's count of

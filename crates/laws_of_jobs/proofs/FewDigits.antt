@@ -6,7 +6,7 @@ use Rattle.std.specs.Prelude.{codes}
 use Rattle.clap.specs.Words.{Row, first_of}
 use Rattle.bridge_jobs.specs.declared.{jobs.Job.Job, jobs.FollowJob.FollowJob, verb.Verb.Verb}
 use Rattle.bridge_jobs.specs.Jobs.{◌>>=◌, agree_of, base_of, check_of, digits_of, file_of, first_verb, follow_of, hls_of, index_of, job_by}
-use Rattle.bridge_jobs.specs.{Jobs.{job_of, make_of, master_of, out_of, reload_of, show_of}, Verbs.values_of}
+use Rattle.bridge_jobs.specs.{Jobs.{compare_of, job_of, make_of, master_of, out_of, reload_of, show_of}, Verbs.values_of}
 use Rattle.bridge_core.proofs.Asked.{few_or_six}
 
 abbrev HasFew : Job → Type 0
@@ -44,6 +44,7 @@ few_by verb.HlsIndex rows = free job.HlsIndex (index_of rows) (λ _. tt)
 few_by verb.DashTimes rows = free job.DashTimes (master_of rows) (λ _. tt)
 few_by verb.Agree rows = free job.Agree (agree_of rows) (λ _. tt)
 few_by verb.FollowHls rows = free job.FollowHls (master_of rows) (λ _. tt)
+few_by verb.Compare rows = free job.Compare (compare_of rows) (λ _. tt)
 
 few_words : (words : List (List ℕ)) → IfSome (job_of words) HasFew
 unfolding job_of

@@ -1,5 +1,5 @@
 -- What a presentation of the files of a master playlist and its media playlists means.
-use Rattle.std.specs.Prelude.{◌≡◌, ℕ, List, [], ◌∷◌, map, Some, Ok}
+use Rattle.std.specs.Prelude.{◌≡◌, ℕ, true, List, [], ◌∷◌, map, Some, Ok}
 use Rattle.bridge_io.specs.Outside.{Files}
 use Rattle.hls_master.specs.{declared.track.MasterTrack.MasterTrack, Masters.master_of, SeenTracks.track_seen}
 use Rattle.hls_media.specs.{Media.media_of, declared.media.Media.Media}
@@ -37,3 +37,15 @@ abbrev pub PresentedMeanTheirFiles : Type 0
 PresentedMeanTheirFiles = (files : Files) (folder url : List ℕ) (tracks : List MasterTrack) (medias : List Media) (p : Presented)
     → IsMaster files folder url tracks
     → ArePlaylists files folder tracks medias → hls_presented_of tracks medias ≡ Ok p → MeanTheSame files folder url p
+
+-- ---- playlists that may be live
+
+-- a playlist as if it were ended
+abbrev pub ended : Media → Media
+ended media = record media { ended = true }
+
+-- the same of media playlists each of which is taken as if it were ended
+abbrev pub ListedMeanTheirFiles : Type 0
+ListedMeanTheirFiles = (files : Files) (folder url : List ℕ) (tracks : List MasterTrack) (medias : List Media) (p : Presented)
+    → IsMaster files folder url tracks
+    → ArePlaylists files folder tracks medias → hls_presented_of tracks (map ended medias) ≡ Ok p → MeanTheSame files folder url p

@@ -9,7 +9,9 @@ mod written;
 pub use from_playlists::{
     read_tracks_can_be_written, what_is_read_has_addresses, written_playlists_mean_the_same,
 };
-pub use presented::{presented_mean_their_files, presented_mean_what_is_told};
+pub use presented::{
+    listed_mean_their_files, presented_mean_their_files, presented_mean_what_is_told,
+};
 pub use written::{
     live_texts_are_read, timed_contents_mean_the_same, timed_lists_are_read,
     timed_presentations_keep_their_files, timed_texts_are_read, timed_texts_mean_their_times,

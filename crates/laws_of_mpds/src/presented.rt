@@ -1,4 +1,4 @@
-ghost use Rattle.laws_of_mpds.specs.PresentedFiles.{PresentedMeanTheirFiles};
+ghost use Rattle.laws_of_mpds.specs.PresentedFiles.{ListedMeanTheirFiles, PresentedMeanTheirFiles};
 ghost use Rattle.laws_of_mpds.specs.PresentedLaws.{PresentedMeanWhatIsTold};
 
 /// A presentation of playlists that were read means what a master playlist's tracks with these playlists mean, with
@@ -11,4 +11,9 @@ pub fn presented_mean_what_is_told()
 /// what these files mean, with equal times.
 pub fn presented_mean_their_files()
     ensures { PresentedMeanTheirFiles }
+{}
+
+/// The same where a media playlist may be live, and is taken as if it were ended.
+pub fn listed_mean_their_files()
+    ensures { ListedMeanTheirFiles }
 {}

@@ -1,6 +1,6 @@
 -- What a list was read of.
 use Rattle.followed_text.specs.declared.fault.FollowedFault.TheVariants as fault
-use Rattle.std.proofs.Common.{◌≡◌, ℕ, ◌≤◌, List, [], ◌∷◌, length, codes, Option, Some, None, Result, Ok, Err, ℤ, refl}
+use Rattle.std.proofs.Common.{◌≡◌, ℕ, ◌≤◌, ◌&&◌, nat_le, subst, List, [], ◌∷◌, length, codes, Option, Some, None, Result, Ok, Err, ℤ, refl}
 use Rattle.std.proofs.{Common.{arith, inl, inr, bytes_eq}, lemmas.{Bool.cases_Bool, Bool.Decides.nat_tests, Option.same_Some}}
 use Rattle.bridge_io.specs.Answer.{and_then}
 use Rattle.bridge_io.proofs.Texts.{same_bytes}
@@ -19,8 +19,12 @@ pub record IsGiven (bytes url : List ℕ) (list : FollowedText) : Type 0 where
   pub media_is : media_of bytes url ≡ Ok media
   pub text : text_of list ≡ bytes
   pub dates : List ℤ
+  pub lines : List PlaylistLine
+  pub lines_are : lines_of bytes ≡ Ok lines
+  pub dates_are : dates_of lines ≡ dates
   pub items : list.items ≡ items_of list.head.digits media.segments dates
   pub digits : list.head.digits ≤ 9
+  pub digits_are : digits_from list.head.digits ≡ Some list.head.digits
   pub target : list.head.target ≡ media.target
   pub sequence : list.head.sequence ≡ media.sequence
   pub first : list.head.first_section ≡ first_section 0 list.items
@@ -29,45 +33,56 @@ pub record IsGiven (bytes url : List ℕ) (list : FollowedText) : Type 0 where
 few_from : (n m : ℕ) → digits_from n ≡ Some m → m ≤ 9
 few_from n m is = grind (arith, nat_tests)
 
-few_digits : (lines : List PlaylistLine) (m : ℕ) → digits_of lines ≡ Some m → m ≤ 9
-few_digits [] m is = absurd (cc)
-few_digits (uri text place ∷ lines) m is = few_digits lines m is
-few_digits (tag name rest place ∷ lines) m is = elim (cases_Bool (bytes_eq name (codes "EXTINF"))) [
-  | inl named ↦ few_from (decimals rest) m (rw named at is)
-  | inr other ↦ few_digits lines m (rw other at is)
+same_from : (n m : ℕ) → digits_from n ≡ Some m → digits_from m ≡ Some m
+same_from n m is = elim (cases_Bool (nat_le 3 n && nat_le n 9)) [
+  | inl within ↦ let same : n ≡ m = same_Some n m (rw within at is) in subst (λ (k : ℕ). digits_from k ≡ Some m) same is
+  | inr other ↦ let never : None ≡ Some m = rw other at is in absurd (cc)
+]
+
+from_digits : (lines : List PlaylistLine) (m : ℕ) → digits_of lines ≡ Some m → digits_from m ≡ Some m
+from_digits [] m is = absurd (cc)
+from_digits (uri text place ∷ lines) m is = from_digits lines m is
+from_digits (tag name rest place ∷ lines) m is = elim (cases_Bool (bytes_eq name (codes "EXTINF"))) [
+  | inl named ↦ same_from (decimals rest) m (rw named at is)
+  | inr other ↦ from_digits lines m (rw other at is)
 ]
 
 module _ (bytes url : List ℕ) (list : FollowedText) (media : Media) (media_is : media_of bytes url ≡ Ok media)
     (text : text_of list ≡ bytes) where
-  from_items : (digits : ℕ) (dates : List ℤ) (items : List MediaItem) → digits ≤ 9 → items ≡ items_of digits media.segments dates
-      → followed_from media digits items ≡ Some list → IsGiven bytes url list
-  from_items digits dates [] few items_are is = absurd (cc)
-  from_items digits dates (item ∷ items) few items_are is = let same = same_Some _ list is in record {
-    media = media;
-    media_is = media_is;
-    text = text;
-    dates = dates;
-    items = rw (← same) items_are;
-    digits = rw (← same) few;
-    target = rw (← same) refl;
-    sequence = rw (← same) refl;
-    first = rw (← same) refl;
-    some = rw (← same) (omega arith);
-  }
+  module _ (lines : List PlaylistLine) (lines_are : lines_of bytes ≡ Ok lines) where
+    from_items : (digits : ℕ) (items : List MediaItem) → digits_from digits ≡ Some digits
+        → items ≡ items_of digits media.segments (dates_of lines) → followed_from media digits items ≡ Some list → IsGiven bytes url list
+    from_items digits [] told items_are is = absurd (cc)
+    from_items digits (item ∷ items) told items_are is = let same = same_Some _ list is in record {
+      media = media;
+      media_is = media_is;
+      text = text;
+      dates = dates_of lines;
+      lines = lines;
+      lines_are = lines_are;
+      dates_are = refl;
+      items = rw (← same) items_are;
+      digits = rw (← same) (few_from digits digits told);
+      digits_are = rw (← same) told;
+      target = rw (← same) refl;
+      sequence = rw (← same) refl;
+      first = rw (← same) refl;
+      some = rw (← same) (omega arith);
+    }
 
-  from_digits : (o : Option ℕ) (dates : List ℤ) → ((m : ℕ) → o ≡ Some m → m ≤ 9) → candidate_with media o dates ≡ Some list
+    from_number : (o : Option ℕ) → digits_of lines ≡ o → candidate_with media o (dates_of lines) ≡ Some list → IsGiven bytes url list
+    from_number None of is = absurd (cc)
+    from_number (Some digits) of is =
+        from_items digits (items_of digits media.segments (dates_of lines)) (from_digits lines digits of) refl is
+
+  from_lines : (r : Result (List PlaylistLine) LineFault) → lines_of bytes ≡ r → candidate_in media r ≡ Some list
       → IsGiven bytes url list
-  from_digits None dates few is = absurd (cc)
-  from_digits (Some digits) dates few is =
-      from_items digits dates (items_of digits media.segments dates) (few digits refl) refl is
-
-  from_lines : (r : Result (List PlaylistLine) LineFault) → candidate_in media r ≡ Some list → IsGiven bytes url list
-  from_lines (Ok lines) is = from_digits (digits_of lines) (dates_of lines) (few_digits lines) is
-  from_lines (Err f) is = absurd (cc)
+  from_lines (Ok lines) of is = from_number lines of (digits_of lines) refl is
+  from_lines (Err f) of is = absurd (cc)
 
   from_candidate : candidate_of bytes media ≡ Some list → IsGiven bytes url list
   unfolding candidate_of
-  from_candidate is = from_lines (lines_of bytes) is
+  from_candidate is = from_lines (lines_of bytes) refl is
 
 module _ (bytes url : List ℕ) (list : FollowedText) where
   from_form : (media : Media) → media_of bytes url ≡ Ok media → (o : Option FollowedText) → candidate_of bytes media ≡ o

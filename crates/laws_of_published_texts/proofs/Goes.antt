@@ -258,7 +258,7 @@ none_place test place (t ∷ ts) (suc k) track none is = elim (cases_Bool (test 
 ]
 
 module _ (a : Accepted) (r : Replaced a) where
-  same_digits : r.track.new.head.digits ≡ r.track.served.head.digits
+  pub same_digits : r.track.new.head.digits ≡ r.track.served.head.digits
   same_digits =
       let same = none_place has_other_digits 0 a.tracks r.place r.track (planned a).digits r.track_is in grind (arith, nat_tests)
 

@@ -6,8 +6,11 @@ use Rattle.std.proofs.{lemmas.List.Elements.{All-cons, All-map, All-nil}}
 use Rattle.std.proofs.Math.Nat.{div-le_self}
 use Rattle.std.specs.{List.All, List.Sorted.IsNonDecreasingBy}
 use Rattle.url_parts.specs.declared.{address.Part.Part, range.Range.Range}
-use Rattle.hls_lines.specs.Lines.{lines_of}
-use Rattle.hls_media.specs.{Laws.{IsBounded, IsBoundedRange, IsBoundedSegment, ReadIsBounded, ReadIsMeant}, Media.media_values}
+use Rattle.hls_lines.specs.Lines.{PlaylistLine, lines_of, start}
+use Rattle.bridge_io.specs.Places.{place_of}
+use Rattle.hls_media.specs.{Laws.{IsBounded, IsBoundedRange, IsBoundedSegment, ReadIsBounded, ReadIsMeant}, Media.{media_in, media_of}}
+use Rattle.hls_media.specs.{Media.media_values, Told.SegmentsAreTold}
+use Rattle.hls_media.proofs.Bounded.{media_in-ok}
 use Rattle.hls_media.specs.declared.media.{Media.Media, MediaSegment.MediaSegment}
 use Rattle.hls_writer.specs.{Items.{head_of, item_of, items_text}, declared.items.MediaItem.MediaItem}
 use Rattle.followed_text.specs.{Followed.{item_with, items_of, with_item}, declared.followed.FollowedText.FollowedText}
@@ -17,7 +20,8 @@ use Rattle.laws_of_playlists.specs.ReadMedia.{AreInOrder, FollowedAreRead, GoOn,
 use Rattle.laws_of_playlists.specs.ReadMedia.{segment_of, segments_of}
 use Rattle.laws_of_publishing.specs.Laws.{segment_told}
 use Rattle.laws_of_published_texts.specs.Laws.{IsRead, IsTold}
-use Rattle.laws_of_published_texts.proofs.Given.{IsGiven, given}
+use Rattle.laws_of_playlists.specs.ReadLines.{said_from_place}
+use Rattle.laws_of_published_texts.proofs.{First.{first_is_told, number_below}, Given.{IsGiven, given}, Lines.{lines_are, written}}
 use Rattle.laws_of_published_texts.proofs.Maps.{IsGood, Rising, alike, alike_from, alike_readable, like, maps_of, same_maps, same_text}
 
 -- ---- items of segments
@@ -41,21 +45,27 @@ module _ (digits : ℕ) where
             omega (arith, lasts, div-le_self s.duration (10 ^ (9 - digits)), div-le_self units (10 ^ digits));
       }
 
-  abbrev item_by : MediaSegment → ℤ → Option Part → Option MediaItem
+  abbrev pub item_by : MediaSegment → ℤ → Option Part → Option MediaItem
   item_by s date o = option_map (item_with digits s date) o
 
-  good_with : (s : MediaSegment) (date : ℤ) (o : Option Part) (rest : List MediaItem) → s.map ≡ o → Fits s → All (IsGood digits) rest
-      → All (IsGood digits) (with_item (item_by s date o) rest)
-  good_with s date None rest is fits all = all
-  good_with s date (Some m) rest is fits all = All-cons (IsGood digits) (item_with digits s date m) rest (good_one s date m is fits) all
+  -- each item of what its segment is
+  module _ (P : MediaItem → Type 0) (Q : MediaSegment → Type 0)
+      (one : (s : MediaSegment) (date : ℤ) (m : Part) → s.map ≡ Some m → Q s → P (item_with digits s date m)) where
+    each_with : (s : MediaSegment) (date : ℤ) (o : Option Part) (rest : List MediaItem) → s.map ≡ o → Q s → All P rest
+        → All P (with_item (item_by s date o) rest)
+    each_with s date None rest is own all = all
+    each_with s date (Some m) rest is own all = All-cons P (item_with digits s date m) rest (one s date m is own) all
+
+    pub each_item : (segments : List MediaSegment) (dates : List ℤ) → All Q segments → All P (items_of digits segments dates)
+    each_item [] dates all = All-nil P
+    each_item (s ∷ ss) [] all = All-nil P
+    each_item (s ∷ ss) (date ∷ dates) all =
+        each_with s date s.map (items_of digits ss dates) refl (all 0 s (omega arith))
+        (each_item ss dates (λ k d within. all (suc k) d (omega arith)))
 
   pub good_items : (segments : List MediaSegment) (dates : List ℤ) → All Fits segments
       → All (IsGood digits) (items_of digits segments dates)
-  good_items [] dates all = All-nil (IsGood digits)
-  good_items (s ∷ ss) [] all = All-nil (IsGood digits)
-  good_items (s ∷ ss) (date ∷ dates) all =
-      good_with s date s.map (items_of digits ss dates) refl (all 0 s (omega arith))
-      (good_items ss dates (λ k d within. all (suc k) d (omega arith)))
+  good_items = each_item (IsGood digits) Fits good_one
 
   rising_with : (low : ℕ) (s : MediaSegment) (date : ℤ) (o : Option Part) (rest : List MediaItem) → low ≤ s.section
       → Rising s.section rest → Rising low rest → Rising low (with_item (item_by s date o) rest)
@@ -79,7 +89,7 @@ module _ (digits : ℕ) where
   few_with s date None rest = omega arith
   few_with s date (Some m) rest = omega arith
 
-  fewer : (segments : List MediaSegment) (dates : List ℤ) → length (items_of digits segments dates) ≤ length segments
+  pub fewer : (segments : List MediaSegment) (dates : List ℤ) → length (items_of digits segments dates) ≤ length segments
   fewer [] dates = omega arith
   fewer (s ∷ ss) [] = omega arith
   fewer (s ∷ ss) (date ∷ dates) = omega (arith, few_with s date s.map (items_of digits ss dates), fewer ss dates)
@@ -180,11 +190,7 @@ sound_is_told again list sound url =
     let segments = segments_are digits list.items (rising_of list.items sound.order) in
     (is.0, (is.1.0, cc (is.1.1, segments, sound.first)))
 
-first_small : (items : List MediaItem) → All (λ (item : MediaItem). item.section < 2 ^ 63) items → first_section 0 items < 2 ^ 63
-first_small [] small = omega arith
-first_small (item ∷ items) small = small 0 item (omega arith)
-
-module _ (bounded : ReadIsBounded) (meant : ReadIsMeant) (addressed : ReadHaveAddresses) where
+module _ (bounded : ReadIsBounded) (meant : ReadIsMeant) (addressed : ReadHaveAddresses) (told : SegmentsAreTold) where
   module _ (list : FollowedText) (read : IsRead list) where
     abbrev g : IsGiven read.bytes read.url list
     g = given read.bytes read.url list read.is
@@ -203,13 +209,32 @@ module _ (bounded : ReadIsBounded) (meant : ReadIsMeant) (addressed : ReadHaveAd
         subst (Rising 0) (sym g.items)
         (rising_items list.head.digits 0 g.media.segments g.dates (λ k d within. omega arith) bounds.sections)
 
+    abbrev lines : List PlaylistLine
+    lines = said_from_place start (written (head_of list.head) (map item_of list.items))
+
+    pub lines_told : lines_of read.bytes ≡ Ok lines
+    lines_told = ap lines_of (sym g.text) ∙ lines_are (head_of list.head) (map item_of list.items)
+        (omega (arith, bounds.target, g.target)) (omega (arith, bounds.sequence, g.sequence))
+        (All-map (IsReadableItem list.head.digits) item_of list.items read_good)
+
+    pub media_told_in : media_in (place_of read.bytes (length read.bytes)) read.url lines ≡ Ok g.media
+    unfolding media_of
+    media_told_in = rw lines_told at g.media_is
+
+    pub first_below : list.head.first_section < 2 ^ 63
+    first_below =
+        let is = media_in-ok (place_of read.bytes (length read.bytes)) read.url lines g.media media_told_in in
+        let below = number_below read.url (head_of list.head) (map item_of list.items) is.0 in
+        let first = first_is_told told read.url (head_of list.head) list.items g.some g.media.segments
+        (ap (λ (m : Media). m.segments) is.1) list.head.digits g.dates g.items in
+        omega (arith, below, first, g.first)
+
     read_head : IsReadableHead (head_of list.head)
-    read_head =
-        let first = first_small list.items read.small.sections in record {
-          target = omega (arith, bounds.target, g.target);
-          sequence = omega (arith, bounds.sequence, g.sequence);
-          first_section = omega (arith, first, g.first);
-        }
+    read_head = record {
+      target = omega (arith, bounds.target, g.target);
+      sequence = omega (arith, bounds.sequence, g.sequence);
+      first_section = omega (arith, first_below);
+    }
 
     same_items : FollowedAreRead → alike list.items ≡ list.items
     same_items again =

@@ -1,6 +1,6 @@
 -- What published texts are read as, and that they lawfully reload those that were served.
 use Rattle.std.proofs.Common.{arith}
-use Rattle.hls_media.specs.Laws.{ReadIsBounded, ReadIsMeant}
+use Rattle.hls_media.specs.{Laws.{ReadIsBounded, ReadIsMeant}, Told.SegmentsAreTold}
 use Rattle.reload_law.specs.Laws.{RulesAreSentences}
 use Rattle.laws_of_mpds.specs.Written.{ReadHaveAddresses}
 use Rattle.laws_of_playlists.specs.ReadMedia.{FollowedAreRead}
@@ -8,13 +8,14 @@ use Rattle.laws_of_publishing.specs.Laws.{ListsReload, media_told}
 use Rattle.laws_of_published_texts.specs.Laws.{FirstTextsAreTold, PublishedTextsAreTold, PublishedTextsReload, ReadTextsAreTold, list_with}
 use Rattle.laws_of_published_texts.proofs.{Goes.published_is_sound, Sound.{read_is_sound, sound_is_told}}
 
-module _ (bounded : ReadIsBounded) (meant : ReadIsMeant) (addressed : ReadHaveAddresses) (again : FollowedAreRead) where
+module _ (bounded : ReadIsBounded) (meant : ReadIsMeant) (addressed : ReadHaveAddresses) (told : SegmentsAreTold)
+    (again : FollowedAreRead) where
   pub read_texts_are_told : ReadTextsAreTold
-  read_texts_are_told list read = sound_is_told again list (read_is_sound bounded meant addressed list read again)
+  read_texts_are_told list read = sound_is_told again list (read_is_sound bounded meant addressed told list read again)
 
   pub first_texts_are_told : FirstTextsAreTold
   first_texts_are_told list target ended read less =
-      let is = read_is_sound bounded meant addressed list read again in
+      let is = read_is_sound bounded meant addressed told list read again in
       sound_is_told again (list_with target ended list) (record {
         few = is.few;
         good = is.good;
@@ -25,7 +26,7 @@ module _ (bounded : ReadIsBounded) (meant : ReadIsMeant) (addressed : ReadHaveAd
 
   pub published_texts_are_told : PublishedTextsAreTold
   published_texts_are_told a r served new =
-      let sound = read_is_sound bounded meant addressed in
+      let sound = read_is_sound bounded meant addressed told in
       sound_is_told again r.list (published_is_sound a r (sound r.track.served served again) (sound r.track.new new again))
 
 pub published_texts_reload : ReadTextsAreTold → PublishedTextsAreTold → ListsReload → RulesAreSentences → PublishedTextsReload

@@ -2,16 +2,15 @@
 use Rattle.std.specs.Prelude.{◌≡◌, ℕ, ◌^◌, ◌<◌, Bool, List, All, Ok}
 use Rattle.followed_text.specs.{Followed.{followed_of, text_of}, declared.followed.FollowedText.FollowedText}
 use Rattle.laws_of_playlists.specs.ReadMedia.{ReadsAs}
-use Rattle.laws_of_publishing.specs.Laws.{Accepted, IsSmall, Replaced, media_told}
+use Rattle.laws_of_publishing.specs.Laws.{Accepted, Replaced, media_told}
 use Rattle.laws_of_reloads.specs.Laws.{Reloads}
 
--- The list was read of a text, got from a URL of bytes. No number is above those that a text may have.
+-- The list was read of a text, got from a URL of bytes.
 pub record IsRead (list : FollowedText) : Type 0 where
   pub bytes : List ℕ
   pub url : List ℕ
   pub of_bytes : All (λ b. b < 256) url
   pub is : followed_of bytes url ≡ Ok list
-  pub small : IsSmall list
 
 -- the text is read as the list says, whatever the URL that it was fetched from
 abbrev pub IsTold : FollowedText → Type 0

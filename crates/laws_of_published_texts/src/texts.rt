@@ -1,7 +1,9 @@
 // What the texts of served and of published playlists are read as.
 ghost use Rattle.laws_of_published_texts.specs.Laws.{FirstTextsAreTold, PublishedTextsAreTold, PublishedTextsReload, ReadTextsAreTold};
 
-use hls_media::{what_is_read_is_bounded, what_is_read_is_meant};
+use hls_media::{
+    segments_are_told_by_the_lines_before, what_is_read_is_bounded, what_is_read_is_meant,
+};
 use laws_of_mpds::what_is_read_has_addresses;
 use laws_of_playlists::playlists_are_read_again;
 use laws_of_publishing::published_lists_reload;
@@ -15,6 +17,7 @@ pub fn read_texts_are_told()
 {
     what_is_read_is_bounded();
     what_is_read_is_meant();
+    segments_are_told_by_the_lines_before();
     what_is_read_has_addresses();
     playlists_are_read_again();
 }
@@ -25,6 +28,7 @@ pub fn published_texts_are_read()
 {
     what_is_read_is_bounded();
     what_is_read_is_meant();
+    segments_are_told_by_the_lines_before();
     what_is_read_has_addresses();
     playlists_are_read_again();
 }

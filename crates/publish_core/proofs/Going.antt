@@ -1,19 +1,17 @@
 -- What is written where something is served.
 use Rattle.publish_core.specs.declared.refusal.Refused.TheVariants as refused
-use Rattle.std.proofs.Common.{◌≡◌, ◌<◌, ◌^◌, ℕ, zero, suc, Bool, true, false, List, [], ◌∷◌, ◌++◌, All, length, drop}
+use Rattle.std.proofs.Common.{◌≡◌, ℕ, zero, suc, Bool, true, false, List, [], ◌∷◌, ◌++◌, All, length, drop}
 use Rattle.std.proofs.Common.{slice_get, Option, Some, None}
 use Rattle.std.proofs.Common.{Result, Ok, Err, ap, refl, sym, subst, ◌∙◌}
-use Rattle.std.proofs.lemmas.{Bool.ltb-true, List.Elements.{All-cons, All-nil, All-push}}
-use Rattle.std.specs.{Prelude.{nat_le, nat_lt, ◌&&◌, if◌then◌else◌}, List.list_all}
+use Rattle.std.proofs.lemmas.{List.Elements.{All-nil, All-push}}
+use Rattle.std.specs.{Prelude.{nat_lt, if◌then◌else◌}}
 use Rattle.bridge_io.specs.{Answer.and_then}
 use Rattle.bridge_io.proofs.AndThen.{steps_of}
-use Rattle.clap.proofs.WalkLemmas.{both}
 use Rattle.followed_text.specs.{Followed.text_of, declared.followed.FollowedText.FollowedText}
-use Rattle.hls_writer.specs.declared.items.MediaItem.{MediaItem}
-use Rattle.laws_of_publishing.specs.Laws.{Accepted, IsSmall}
+use Rattle.laws_of_publishing.specs.Laws.{Accepted}
 use Rattle.publish_law.specs.{Plans.published, declared.fault.PublishFault.PublishFault, declared.plan.Publication.Publication}
 use Rattle.publish_law.specs.declared.track.{Change.Change, Track.Track}
-use Rattle.publish_core.specs.Decisions.{changed_file, changed_files, decided_with, decision_of, first_of, is_small, is_there}
+use Rattle.publish_core.specs.Decisions.{changed_file, changed_files, decided_with, decision_of, first_of, is_there}
 use Rattle.publish_core.specs.Decisions.{is_within_limits}
 use Rattle.publish_core.specs.Decisions.{master_if, names_of, new_file, next_by, next_files, next_of, paired, segments_after}
 use Rattle.publish_core.specs.Decisions.{text_within, unless_many, with_list}
@@ -21,21 +19,13 @@ use Rattle.publish_core.specs.{Laws.{Decided, PublicationsWriteLists, WritesList
 use Rattle.publish_core.specs.Sides.{are_same_tracks, segment_limit, side_at}
 use Rattle.publish_core.specs.declared.{decision.{Decision.Decision, NewFile.NewFile}, next.FileNames.FileNames}
 use Rattle.publish_core.specs.declared.side.{SideTrack.SideTrack}
-use Rattle.publish_core.proofs.{InOrder.{are_tracks, chosen, side_in_order}, Ordered.ReadIsInOrder}
+use Rattle.publish_core.proofs.{InOrder.{are_tracks, chosen, side_in_order}, Ordered.ReadIsInOrder, Within.{small_list, taken}}
 
 -- ---- choices
 
 if_true : {X : Type 0} (b : Bool) (x y z : X) → b ≡ true → (if b then x else y) ≡ z → x ≡ z
 if_true true x y z is whole = whole
 if_true false x y z is whole = absurd (cc)
-
-record Taken {X E : Type 0} (b : Bool) (x : Result X E) (y : X) : Type 0 where
-  holds : b ≡ true
-  value : x ≡ Ok y
-
-taken : {X E : Type 0} (b : Bool) (x : Result X E) (e : E) (y : X) → (if b then x else Err e) ≡ Ok y → Taken b x y
-taken true x e y is = record { holds = refl; value = is }
-taken false x e y is = absurd (cc)
 
 next_is : {X Y E : Type 0} (r : Result X E) (x : X) (next : X → Result Y E) (y : Result Y E) → r ≡ Ok x → and_then r next ≡ y → next x ≡ y
 next_is r x next y is whole = subst (λ q. and_then q next ≡ y) is whole
@@ -46,23 +36,6 @@ drop_next zero [] x xs is = absurd (cc)
 drop_next zero (y ∷ ys) x xs is = (cc, cc)
 drop_next (suc n) [] x xs is = absurd (cc)
 drop_next (suc n) (y ∷ ys) x xs is = drop_next n ys x xs is
-
--- ---- a list's text
-
-section_small : (item : MediaItem) → is_small item ≡ true → item.section < 2 ^ 63
-section_small item is = ltb-true item.section (2 ^ 63) is
-
-all_small : (items : List MediaItem) → list_all is_small items ≡ true → All (λ (item : MediaItem). item.section < 2 ^ 63) items
-all_small [] is = All-nil (λ (item : MediaItem). item.section < 2 ^ 63)
-all_small (item ∷ items) is = let parts = both (is_small item) (list_all is_small items) is in
-    All-cons (λ (item : MediaItem). item.section < 2 ^ 63) item items (section_small item parts.0) (all_small items parts.1)
-
-small_list : (list : FollowedText) (bytes : ℕ) → is_within_limits list bytes ≡ true → IsSmall list
-small_list list bytes is =
-    let three = both (nat_le (length list.items) 100000 && nat_le bytes 8388608 && nat_lt list.head.sequence (2 ^ 63))
-    (list_all is_small list.items) is in
-    let two = both (nat_le (length list.items) 100000 && nat_le bytes 8388608) (nat_lt list.head.sequence (2 ^ 63)) three.0 in
-    record { sequence = ltb-true list.head.sequence (2 ^ 63) two.1; sections = all_small list.items three.1 }
 
 -- ---- the lists
 
@@ -126,12 +99,12 @@ module _ (a : Accepted) (served : List SideTrack) where
 
 -- ---- the decision
 
-record Parts (p : Decided) : Type 0 where
-  publication : Publication
-  is : published p.job.options (paired p.new.tracks p.served.tracks) ≡ Ok publication
-  lists : List NewFile
-  changed : changed_files [] (names_of p.new.tracks p.served.tracks) publication.changes ≡ Ok lists
-  files : p.decision.files ≡ lists ++ master_if p.new p.served
+pub record Parts (p : Decided) : Type 0 where
+  pub publication : Publication
+  pub is : published p.job.options (paired p.new.tracks p.served.tracks) ≡ Ok publication
+  pub lists : List NewFile
+  pub changed : changed_files [] (names_of p.new.tracks p.served.tracks) publication.changes ≡ Ok lists
+  pub files : p.decision.files ≡ lists ++ master_if p.new p.served
 
 parts_by : (p : Decided) (r : Result Publication PublishFault) → published p.job.options (paired p.new.tracks p.served.tracks) ≡ r
     → next_by p.new p.served (names_of p.new.tracks p.served.tracks) (paired p.new.tracks p.served.tracks) r ≡ Ok p.decision → Parts p
@@ -154,7 +127,7 @@ parts_by p (Ok publication) read is =
       files = ap (λ (d : Decision). d.files) (sym same);
     }
 
-decided_next : (p : Decided) → next_of p.job p.new p.served ≡ Ok p.decision
+pub decided_next : (p : Decided) → next_of p.job p.new p.served ≡ Ok p.decision
 unfolding decision_of
 decided_next p =
     let file = name_in p.job.served master_file in
@@ -165,7 +138,7 @@ decided_next p =
     (λ new. if is_there p.files file then and_then (side_at p.job.served p.files file) (next_of p.job new) else first_of p.job new)
     (Ok p.decision) p.new_is p.is))
 
-parts_of : (p : Decided) → next_of p.job p.new p.served ≡ Ok p.decision → Parts p
+pub parts_of : (p : Decided) → next_of p.job p.new p.served ≡ Ok p.decision → Parts p
 unfolding next_of
 parts_of p is =
     let names = names_of p.new.tracks p.served.tracks in
@@ -174,19 +147,22 @@ parts_of p is =
     (taken (are_same_tracks p.new.tracks p.served.tracks) (next_by p.new p.served names tracks (published p.job.options tracks))
     (p.new.file, refused.Tracks) p.decision is).value
 
+-- the lists of both folders
+abbrev pub accepted_of : ReadIsInOrder → (p : Decided) → Parts p → Accepted
+accepted_of reads p parts = record {
+  options = p.job.options;
+  tracks = paired p.new.tracks p.served.tracks;
+  publication = parts.publication;
+  is = parts.is;
+  are_tracks = are_tracks p.new.tracks p.served.tracks
+      (side_in_order reads p.job.new p.files (name_in p.job.new master_file) p.new p.new_is)
+      (side_in_order reads p.job.served p.files (name_in p.job.served master_file) p.served p.served_is);
+}
+
 pub write_lists : ReadIsInOrder → PublicationsWriteLists
 write_lists reads p =
     let parts = parts_of p (decided_next p) in
-    let tracks = paired p.new.tracks p.served.tracks in
-    let a : Accepted = record {
-      options = p.job.options;
-      tracks = tracks;
-      publication = parts.publication;
-      is = parts.is;
-      are_tracks = are_tracks p.new.tracks p.served.tracks
-          (side_in_order reads p.job.new p.files (name_in p.job.new master_file) p.new p.new_is)
-          (side_in_order reads p.job.served p.files (name_in p.job.served master_file) p.served p.served_is);
-    } in
+    let a = accepted_of reads p parts in
     record {
       accepted = a;
       options = refl;

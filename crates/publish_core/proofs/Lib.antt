@@ -1,3 +1,6 @@
+mod After
+mod Again
+mod Apart
 mod Calm
 mod Counted
 mod Going
@@ -7,5 +10,8 @@ mod Kept
 mod Ordered
 mod Placing
 mod Refusing
+mod Served
 mod Taken
+mod Whole
+mod Within
 mod Writable

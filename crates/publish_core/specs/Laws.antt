@@ -4,10 +4,12 @@ use Rattle.std.specs.Prelude.{◌≡◌, ◌⊎◌, ℕ, true, List, ◌++◌, s
 use Rattle.bridge_io.specs.declared.outside.Store.{Ghosts as Store}
 use Rattle.bridge_io.specs.{Fault.Rose, Outside.Files}
 use Rattle.bridge_courses.specs.declared.status.Status.{Status}
-use Rattle.followed_text.specs.Followed.{text_of}
+use Rattle.followed_text.specs.{Followed.text_of, declared.followed.FollowedText.FollowedText}
+use Rattle.publish_law.specs.declared.track.{Change.Change, Track.Track}
 use Rattle.laws_of_publishing.specs.Laws.{Accepted, Replaced}
-use Rattle.publish_core.specs.{Decisions.{decision_of, is_there, master_if, paired}, Names.{master_file, name_in}}
-use Rattle.publish_core.specs.{Runs.{Decides, IsPlaced, IsRun, Refuses}, Sides.side_at}
+use Rattle.publish_core.specs.{Decisions.{decision_of, is_there, list_after, master_if, paired}, Names.{master_file, name_in}}
+use Rattle.publish_core.specs.{Names.pending_file, Placed.all_placed}
+use Rattle.publish_core.specs.{Runs.{Decides, IsPlaced, IsRun, Refuses}, Sides.{content_of, list_at, side_at}}
 use Rattle.publish_core.specs.declared.{decision.{Decision.Decision, NewFile.NewFile}, job.PublishJob.PublishJob}
 use Rattle.publish_core.specs.declared.side.{Side.Side, SideTrack.SideTrack}
 
@@ -45,6 +47,26 @@ pub record WritesLists (p : Decided) : Type 0 where
 
 abbrev pub PublicationsWriteLists : Type 0
 PublicationsWriteLists = (p : Decided) → WritesLists p
+
+-- ---- what is written is read again
+
+-- the file of a name is read as a list, whatever its URL
+abbrev pub IsReadAs : Files → (name : List ℕ) → FollowedText → Type 0
+IsReadAs files name list = (url : List ℕ) → list_at name url files ≡ Ok list
+
+-- After all files took their places, the file of each served track is read as the list that the track's became, and the served master
+-- is the new one.
+pub record IsServed (p : Decided) (pending : List ℕ) : Type 0 where
+  pub accepted : Accepted
+  pub options : accepted.options ≡ p.job.options
+  pub tracks : accepted.tracks ≡ paired p.new.tracks p.served.tracks
+  pub lists : (place : ℕ) (served : SideTrack) (track : Track) (change : Change) → slice_get p.served.tracks place ≡ Some served
+      → slice_get accepted.tracks place ≡ Some track → slice_get accepted.publication.changes place ≡ Some change
+      → IsReadAs (all_placed pending p.decision.files p.files) served.name (list_after track change)
+  pub master : content_of p.served.file (all_placed pending p.decision.files p.files) ≡ Ok p.new.text
+
+abbrev pub PublicationsAreServed : Type 0
+PublicationsAreServed = (p : Decided) (pending : List ℕ) → name_in p.job.served pending_file ≡ Some pending → IsServed p pending
 
 -- ---- how it ends
 

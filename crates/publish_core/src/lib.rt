@@ -17,5 +17,5 @@ mod words;
 mod written;
 
 pub use bridge_courses::Status;
-pub use laws::{calm_runs_are_decided, publications_write_lists};
+pub use laws::{calm_runs_are_decided, publications_are_served, publications_write_lists};
 pub use top::publish;

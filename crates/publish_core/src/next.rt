@@ -86,7 +86,7 @@ fn paired(alloc: Global, new: SideTracks, served: SideTracks) -> Result<Tracks, 
             new: new.name,
             served: served.name,
         })?;
-        tracks.push(Track::of(served.list, new.list))?;
+        tracks.push(Track::of(alloc, served.list, new.list)?)?;
     }
     Ok(Tracks { names, tracks })
 }

@@ -23,7 +23,7 @@ pub(crate) enum Refused {
     Ended,
     /// Nothing is newer than what is served.
     Back,
-    /// A fresh segment is above the served target duration: its place in the new playlist.
+    /// A segment that comes new to the served playlist is above the served target duration: its place in the new playlist.
     LongSegment(usize),
     /// A playlist would have too many segments or bytes, or too great a number.
     Limit,

@@ -1,3 +1,4 @@
+pub mod Identities
 pub mod Joints
 pub mod Lists
 pub mod Plans

@@ -17,8 +17,8 @@ pub enum PublishFault {
     /// No new segment is served, and none is dated after a served one: an old version, or a clock that was set back.
     #[error("nothing is newer than what is served")]
     Back,
-    /// A fresh segment is longer than the served target duration, to the nearest second with halves up (RFC 8216, 4.3.3.1):
-    /// the places of its track and in the track's new playlist, of the first one.
+    /// A segment that comes new to a served playlist is longer than its target duration, to the nearest second with halves up
+    /// (RFC 8216, 4.3.3.1): the places of its track and in the track's new playlist, of the first one.
     #[error("a segment that is above the served target duration")]
     LongSegment(usize, usize),
     /// Out of memory, which says nothing about the playlists.

@@ -1,12 +1,15 @@
 // Where the new list of a track goes on from the served one.
-ghost use Rattle.std.specs.Prelude.{◌≡◌, bytes_eq, Some};
+ghost use Rattle.std.specs.Prelude.{◌≡◌, bytes_eq, IfOk, Some};
 ghost use Rattle.std.specs.List.{suffix_len};
 ghost use Rattle.std.specs.Option.{option_copied, option_eq};
 ghost use Rattle.reload_law.specs.Rules.{same_part};
 ghost use Rattle.publish_law.specs.Joints as spec;
 
+use crate::listed::Listed;
+use bridge_io::NoMemory;
 use hls_writer::MediaItem;
 use iso_time::Instant;
+use std::alloc::Global;
 use url_parts::{Address, Part};
 
 /// By how much section numbers rise: `up` less `down`.
@@ -26,26 +29,26 @@ pub struct Joint {
     /// By how much section numbers rise, where the last of these segments is the same as the served list's last: then the track
     /// is found.
     pub found: Option<Shift>,
-    /// How many of the new segments are fresh: the last ones, after that segment; where the track isn't found, those dated
-    /// later than the served list's last.
+    /// How many of the new segments are fresh, which is that they come new to the served playlist: the last ones, after that
+    /// segment; where the track isn't found, those dated later than the served list's last.
     pub fresh: usize,
 }
 
 /// Where the new list of a track goes on from the served one.
 #[tactic(auto, unfolding(crate::specs::Joints::joint_of))]
-pub fn joint_of(served: &[MediaItem], new: &[MediaItem]) -> Joint
-    ensures { result ≡ spec.joint_of served.now new.now }
+pub fn joint_of(alloc: Global, served: &[MediaItem], new: &[MediaItem]) -> Result<Joint, NoMemory>
+    ensures { IfOk result (λ joint. joint ≡ spec.joint_of served.now new.now) }
 {
-    let unlisted = unlisted_count(served, new);
+    let unlisted = unlisted_count(alloc, served, new)?;
     let met = before_last(unlisted, new);
-    match before_last(0, served) {
+    Ok(match before_last(0, served) {
         None => Joint {
             met: met.is_some(),
             found: None,
             fresh: unlisted,
         },
         Some(last) => joint_behind(last, met, unlisted, later_count(last.date, new)),
-    }
+    })
 }
 
 fn joint_behind(last: &MediaItem, met: Option<&MediaItem>, unlisted: usize, later: usize) -> Joint
@@ -80,19 +83,15 @@ fn before_last(count: usize, items: &[MediaItem]) -> Option<&MediaItem>
 }
 
 /// How many new segments follow the last one that is the same as a served one: all where there is none.
-fn unlisted_count(served: &[MediaItem], new: &[MediaItem]) -> usize
-    ensures { result ≡ suffix_len (spec.is_unlisted served.now) new.now }
+fn unlisted_count<'a>(
+    alloc: Global,
+    served: &'a [MediaItem],
+    new: &'a [MediaItem],
+) -> Result<usize, NoMemory>
+    ensures { IfOk result (λ count. count ≡ suffix_len (spec.is_unlisted served.now) new.now) }
 {
-    new.iter()
-        .rev()
-        .take_while(|item| is_unlisted(served, item))
-        .count()
-}
-
-fn is_unlisted(served: &[MediaItem], item: &MediaItem) -> bool
-    ensures { result ≡ spec.is_unlisted served.now item.now }
-{
-    !served.iter().any(|other| is_same_item(item, other))
+    let listed = Listed::of(alloc, served)?;
+    Ok(listed.count_behind(new))
 }
 
 /// How many new segments follow the last one dated at or before a time.

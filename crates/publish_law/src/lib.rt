@@ -4,6 +4,7 @@
 
 mod fault;
 mod joint;
+mod listed;
 mod plan;
 mod track;
 

@@ -15,9 +15,9 @@ use std::alloc::Global;
 pub enum Course {
     /// No segment comes.
     Unchanged,
-    /// Without a border before them.
+    /// Without a discontinuity before them.
     Joined,
-    /// Behind a border in all tracks that get segments (EXT-X-DISCONTINUITY: RFC 8216, 4.3.2.3).
+    /// Behind a discontinuity in all tracks that get segments (EXT-X-DISCONTINUITY: RFC 8216, 4.3.2.3).
     Stepped,
     /// To their end (EXT-X-ENDLIST: RFC 8216, 4.3.3.4).
     Ended,
@@ -28,7 +28,7 @@ pub enum Course {
 pub struct Options {
     /// The playlists end where all new ones are ended.
     pub end: bool,
-    /// All segments of a version of long ago are taken for fresh.
+    /// All segments of a version of long ago may come.
     pub back: bool,
 }
 
@@ -45,7 +45,7 @@ pub struct Plan {
     pub share: Share,
     /// Some playlists are ended already: only those that are found go on, each with its own numbers.
     pub cut: bool,
-    /// All new segments are fresh.
+    /// All new segments come.
     pub all: bool,
     /// The playlists end.
     pub ending: bool,
@@ -253,7 +253,7 @@ fn share_of(all: bool, tracks: &[Track]) -> Share
     step_of(least, tracks)
 }
 
-/// A border above all served section numbers.
+/// Behind a discontinuity, above all served section numbers.
 fn step_of(least: u64, tracks: &[Track]) -> Share
     ensures { result ≡ spec.step_of least tracks.now }
 {

@@ -33,11 +33,11 @@ pub struct Change {
 
 impl Track {
     /// The two playlists of a track.
-    pub fn of(served: FollowedText, new: FollowedText) -> Track
-        ensures { result ≡ spec.track_of served new }
+    pub fn of(alloc: Global, served: FollowedText, new: FollowedText) -> Result<Track, NoMemory>
+        ensures { IfOk result (λ track. track ≡ spec.track_of served new) }
     {
-        let joint = joint_of(served.items.as_slice(), new.items.as_slice());
-        Track { served, new, joint }
+        let joint = joint_of(alloc, served.items.as_slice(), new.items.as_slice())?;
+        Ok(Track { served, new, joint })
     }
 
     /// The last so many of the new segments.

@@ -22,15 +22,16 @@
 
 ghost use Rattle.std.specs.Prelude.{◌≡◌, ◌<◌};
 
-use bridge_core::{Status, bridge};
-use bridge_ends::{CallList, FolderStore, MemSink, MemSource, MemStore, StdSink, StdSource};
+use bridge_core::Status;
+use bridge_ends::{CallList, FolderStore, MemSink, MemSource, MemStore, StdSink, StdSource, words};
+use bridge_explained::{Overheard, explained_bridge};
 use bridge_io::{Bytes, Ledger, Name, NoMemory, Sequence, Sink, Steps, Store, Text, slurp};
 use std::alloc::Global;
-use std::io::{self, ErrorKind, Write};
+use std::io::{self, Write};
 use std::marker::Brand;
+use std::mem;
 use std::process::ExitCode;
 use std::sync::ledger::Blank;
-use std::{env, mem};
 
 fn main(rt: HostRuntime) -> ExitCode {
     let status = start::<Brand>(rt, Blank::new(1)).unwrap_or(Status::Memory);
@@ -43,16 +44,16 @@ fn start<L: Ledger>(rt: HostRuntime, blank: Blank) -> Result<Status, NoMemory>
     requires parts { blank.parts ≡ L.parts }
     requires some { 0 < blank.parts }
 {
-    let words = words(&rt)?;
+    let alloc = rt.alloc();
+    let words = words(&rt, alloc)?;
     if words.is_empty() {
         return tabled(&rt);
     }
-    let alloc = rt.alloc();
     let mut input = StdSource::new(rt.reader());
     let mut store = FolderStore::new(rt, alloc, ".")?;
-    let mut report = StdSink::new(io::writer(&rt));
+    let mut report = Overheard::new(alloc, StdSink::new(io::writer(&rt)));
     let mut steps = Steps::<L>::new(blank);
-    let status = bridge(
+    let status = explained_bridge(
         alloc,
         words.as_slice(),
         &mut input,
@@ -85,20 +86,6 @@ fn print<F: Store, P: Sink>(
         }
     }
     Ok(())
-}
-
-/// The words without the program's own name. There are none where one isn't UTF-8.
-fn words(rt: &HostRuntime) -> Result<Sequence<Text>, NoMemory> {
-    let mut words = Sequence::new(rt.alloc());
-    let given = match env::args(rt) {
-        Ok(given) => given,
-        Err(error) if error.kind() == ErrorKind::OutOfMemory => return Err(NoMemory),
-        Err(_) => return Ok(words),
-    };
-    for word in given.skip(1) {
-        words.push(Text::from(word))?;
-    }
-    Ok(words)
 }
 
 /// Runs the rows of the table on standard input.
@@ -319,19 +306,19 @@ fn run(alloc: Global, row: &mut Row) -> Result<(), NoMemory> {
     let bytes = mem::replace(&mut row.input, Bytes::new(alloc));
     let calls = mem::replace(&mut row.input_calls, CallList::new(alloc));
     let mut input = MemSource::new(bytes, calls);
+    let sink = mem::replace(&mut row.report, MemSink::new(alloc, CallList::new(alloc)));
+    let mut report = Overheard::new(alloc, sink);
     let status = top::<Brand>(
         alloc,
         Blank::new(1),
         words,
         &mut input,
         &mut row.store,
-        &mut row.report,
+        &mut report,
     );
     let told = format!(in alloc; "status {}", status.number())?;
     print_line(&mut row.printed, told.as_str())?;
-    row.printed.extend(row.report.bytes())?;
-    row.report = MemSink::new(alloc, CallList::new(alloc));
-    Ok(())
+    row.printed.extend(report.sink().bytes())
 }
 
 fn top<L: Ledger>(
@@ -340,14 +327,14 @@ fn top<L: Ledger>(
     words: &[Text],
     input: &mut MemSource,
     store: &mut MemStore,
-    report: &mut MemSink,
+    report: &mut Overheard<MemSink>,
 ) -> Status
     requires name { blank.name ≡ L.name }
     requires parts { blank.parts ≡ L.parts }
     requires some { 0 < blank.parts }
 {
     let mut steps = Steps::<L>::new(blank);
-    bridge(alloc, words, input, store, report, &mut steps)
+    explained_bridge(alloc, words, input, store, report, &mut steps)
 }
 
 fn show(alloc: Global, row: &mut Row, name: &str) -> Result<(), NoMemory> {

@@ -1,13 +1,6 @@
+use Rattle.std.proofs.Common.{◌∙◌}
+use Rattle.publish_law.proofs.Identities.{behind}
 use Rattle.publish_law.proofs.joint.unlisted_count.Goals as goal
-use Rattle.std.proofs.{Common.{◌∙◌, rules, tests, reverse}, lemmas.Iterator.Adapters.YieldsList-from_rev_slice}
-use Rattle.std.proofs.{lemmas.Iterator.Consumers.count_from_yields_List, lemmas.Iterator.Search.YieldsList-from_take_while}
-use Rattle.std.proofs.lemmas.List.Folds.{length-prefix_len}
-use Rattle.publish_law.specs.Joints.{is_unlisted}
 
 pub returns : goal.returns
-returns c =
-    count_from_yields_List c.take_while.result _ c.count.ensures.ran
-    (YieldsList-from_take_while _ (is_unlisted c.args.served.now)
-    (YieldsList-from_rev_slice c.args.new.now cc) c.take_while.ensures.closure c.take_while.ensures.done
-    (λ x b q k. search (rules, tests)))
-    ∙ length-prefix_len (is_unlisted c.args.served.now) (reverse c.args.new.now)
+returns c = c.count_behind.ensures ∙ behind c.in_ok-listed.listed c.args.served.now c.args.new.now c.in_ok-listed.ensures

@@ -1,0 +1,13 @@
+mod Ratios
+mod Nearness
+mod Walks
+mod Chosen
+mod Collecting
+mod Entries
+mod Extras
+mod Places
+mod Opened
+mod Told
+mod Agreeing
+mod First
+mod Alike

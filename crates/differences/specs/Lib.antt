@@ -1,0 +1,13 @@
+pub mod Sizes
+pub mod Rounded
+pub mod Elapsed
+pub mod Deviating
+pub mod Collecting
+pub mod Heads
+pub mod Listing
+pub mod Pairs
+pub mod Segments
+pub mod Sections
+pub mod Contents
+pub mod Agreeing
+pub mod Alike

@@ -1,0 +1,12 @@
+// A time as the difference of two ticks.
+ghost use Rattle.std.specs.Prelude.{◌<◌, ◌^◌, unsigned_abs};
+
+/// A time from one tick to another, which is negative where the second is the earlier one.
+#[derive(Clone, Copy)]
+pub(crate) struct Elapsed {
+    pub(crate) ticks: i128,
+    /// How many ticks make a second.
+    pub(crate) scale: u64,
+    ghost bounded: { unsigned_abs ticks < 2 ^ 97 },
+    ghost positive: { 0 < scale },
+}

@@ -1,0 +1,7 @@
+mod Dates
+mod Faultless
+mod Parts
+mod Publishing
+mod Reading
+mod Taken
+mod Taking

@@ -1,0 +1,7 @@
+use Rattle.laws_of_taken_texts.proofs.Taken.{published_taken}
+use Rattle.laws_of_taken_texts.proofs.texts.published_texts_are_taken.Goals as goal
+
+pub returns : goal.returns
+returns c = published_taken c.what_is_read_is_bounded.ensures c.what_is_read_is_meant.ensures
+    c.what_is_read_has_addresses.ensures.segments c.segments_are_told_by_the_lines_before.ensures
+    c.playlists_are_read_again.ensures.followed
