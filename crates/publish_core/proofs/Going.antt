@@ -11,7 +11,8 @@ use Rattle.followed_text.specs.{Followed.text_of, declared.followed.FollowedText
 use Rattle.laws_of_publishing.specs.Laws.{Accepted}
 use Rattle.publish_law.specs.{Plans.published, declared.fault.PublishFault.PublishFault, declared.plan.Publication.Publication}
 use Rattle.publish_law.specs.declared.track.{Change.Change, Track.Track}
-use Rattle.publish_core.specs.Decisions.{changed_file, changed_files, decided_with, decision_of, first_of, is_there}
+use Rattle.publish_core.specs.Decisions.{changed_file, changed_files, decided_with, decision_of, decision_with, first_of, is_there}
+use Rattle.publish_core.specs.Taken.{is_taken}
 use Rattle.publish_core.specs.Decisions.{is_within_limits}
 use Rattle.publish_core.specs.Decisions.{master_if, names_of, new_file, next_by, next_files, next_of, paired, segments_after}
 use Rattle.publish_core.specs.Decisions.{text_within, unless_many, with_list}
@@ -134,9 +135,10 @@ decided_next p =
     let read = and_then (side_at p.job.served p.files file) (next_of p.job p.new) in
     next_is (side_at p.job.served p.files file) p.served (next_of p.job p.new) (Ok p.decision) p.served_is
     (if_true (is_there p.files file) read (first_of p.job p.new) (Ok p.decision) p.there
+    (taken (is_taken p.job p.new) (decision_with p.job p.files p.new) (p.new.file, refused.Form) p.decision
     (next_is (side_at p.job.new p.files (name_in p.job.new master_file)) p.new
-    (λ new. if is_there p.files file then and_then (side_at p.job.served p.files file) (next_of p.job new) else first_of p.job new)
-    (Ok p.decision) p.new_is p.is))
+    (λ new. if is_taken p.job new then decision_with p.job p.files new else Err (new.file, refused.Form))
+    (Ok p.decision) p.new_is p.is)).value)
 
 pub parts_of : (p : Decided) → next_of p.job p.new p.served ≡ Ok p.decision → Parts p
 unfolding next_of

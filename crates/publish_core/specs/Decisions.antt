@@ -13,6 +13,7 @@ use Rattle.publish_law.specs.{Lists.{saturated, track_of}, Plans.published}
 use Rattle.publish_core.specs.{Names.{master_file, name_in}, Refusals.Named, Reports.{counts_line, first_line}}
 use Rattle.publish_core.specs.Sides.{are_same_tracks, segment_limit}
 use Rattle.publish_core.specs.Sides.{segments_of, side_at}
+use Rattle.publish_core.specs.Taken.{is_taken}
 use Rattle.publish_core.specs.declared.{decision.{Decision.Decision, NewFile.NewFile}, job.PublishJob.PublishJob}
 use Rattle.publish_core.specs.declared.{next.FileNames.FileNames, report.Counts.Counts, side.{Side.Side, SideTrack.SideTrack}}
 
@@ -170,9 +171,13 @@ abbrev pub is_there : Files → Option (List ℕ) → Bool
 is_there files None = false
 is_there files (Some name) = is_some (files name)
 
--- the new side whole, and then the served one, of which nothing is read where it has no master
+abbrev pub decision_with : PublishJob → Files → (new : Side) → Result Decision Named
+decision_with job files new = if is_there files (name_in job.served master_file)
+    then and_then (side_at job.served files (name_in job.served master_file)) (next_of job new)
+    else first_of job new
+
+-- The new side whole, and then the served one, of which nothing is read where it has no master. A new master that means something else
+-- in the served folder isn't taken.
 unfoldable pub decision_of : PublishJob → Files → Result Decision Named
 decision_of job files = and_then (side_at job.new files (name_in job.new master_file)) (λ new.
-    if is_there files (name_in job.served master_file)
-    then and_then (side_at job.served files (name_in job.served master_file)) (next_of job new)
-    else first_of job new)
+    if is_taken job new then decision_with job files new else Err (new.file, refused.Form))

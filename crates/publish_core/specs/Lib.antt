@@ -7,3 +7,4 @@ pub mod Reports
 pub mod Runs
 pub mod Sides
 pub mod Words
+pub mod Taken

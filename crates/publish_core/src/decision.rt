@@ -8,7 +8,8 @@ use crate::first::first_publication;
 use crate::job::PublishJob;
 use crate::names::{MASTER, name_in};
 use crate::next::next_publication;
-use crate::refusal::Stop;
+use crate::placed_master::is_taken;
+use crate::refusal::{Refused, Stop};
 use crate::side::side_at;
 use bridge_io::{Bytes, Name, Sequence, Store, Text};
 use std::alloc::Global;
@@ -30,7 +31,8 @@ pub(crate) struct Decision {
     pub(crate) line: Text,
 }
 
-/// What is written of a job. The new side is read whole before the served one, of which nothing is read where it has no master.
+/// What is written of a job. The new side is read whole before the served one, of which nothing is read where it has no master. A
+/// master that means something else in the served folder is refused.
 #[tactic(auto, unfolding(crate::specs::Decisions::decision_of))]
 pub(crate) fn decided<F: Store>(
     alloc: Global,
@@ -40,6 +42,9 @@ pub(crate) fn decided<F: Store>(
     ensures { ReadsAs F.Store store.old store.new (λ decision. decision) (spec.decision_of job.now) result }
 {
     let new = side_at(alloc, &job.new, store)?;
+    if !is_taken(alloc, job, &new)? {
+        return Err(Stop::at(alloc, &new.file, Refused::Form));
+    }
     if is_served(alloc, job, store)? {
         let served = side_at(alloc, &job.served, store)?;
         next_publication(alloc, job, new, served)

@@ -8,6 +8,7 @@ mod laws;
 mod limits;
 mod names;
 mod next;
+mod placed_master;
 mod refusal;
 mod report;
 mod same;

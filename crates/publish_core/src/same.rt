@@ -31,7 +31,7 @@ fn is_same_track(new: &SideTrack, old: &SideTrack) -> bool
         && new.file.as_str() == old.file.as_str()
 }
 
-fn is_same_kind(a: Kind, b: Kind) -> bool
+pub(crate) fn is_same_kind(a: Kind, b: Kind) -> bool
     ensures { result ≡ is_same_kind a b }
 {
     matches!(
@@ -40,7 +40,7 @@ fn is_same_kind(a: Kind, b: Kind) -> bool
     )
 }
 
-fn is_same_language(a: &Option<Text>, b: &Option<Text>) -> bool
+pub(crate) fn is_same_language(a: &Option<Text>, b: &Option<Text>) -> bool
     ensures { result ≡ option_eq bytes_eq a.now b.now }
 {
     match (a, b) {

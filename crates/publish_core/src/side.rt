@@ -93,7 +93,7 @@ fn bytes_of<F: Store>(alloc: Global, store: &mut F, name: &Name) -> Result<Bytes
 }
 
 /// The master that a file's bytes are.
-fn master_in(alloc: Global, file: &Name, text: &[u8]) -> Result<Master, Stop>
+pub(crate) fn master_in(alloc: Global, file: &Name, text: &[u8]) -> Result<Master, Stop>
     ensures master { Gives (λ master. master) stopped result (spec.master_in file.now text.now) }
     ensures no_fault { spec.IsNoReadFault result }
 {
@@ -115,7 +115,7 @@ fn master_under(alloc: Global, url: &Base, file: &Name, text: &[u8]) -> Result<M
 }
 
 /// The files of tracks, none for one that lies outside of the folder.
-type NameList = Sequence<Option<Name>>;
+pub(crate) type NameList = Sequence<Option<Name>>;
 
 /// The URL of a folder under another.
 fn url_under(alloc: Global, base: &str, folder: &Name) -> Result<Option<Base>, NoMemory>
@@ -134,7 +134,7 @@ fn text_under(alloc: Global, base: &str, folder: &Name) -> Result<Text, NoMemory
 
 /// The tracks' files in the folder.
 #[tactic(auto, unfolding(crate::specs::Sides::names_in))]
-fn names_in(
+pub(crate) fn names_in(
     alloc: Global,
     folder: &Name,
     file: &Name,
@@ -185,7 +185,7 @@ fn is_any_named(name: &Name, names: &[Option<Name>]) -> bool
     names.iter().any(|other| is_named(name, other))
 }
 
-fn is_named(name: &Name, other: &Option<Name>) -> bool
+pub(crate) fn is_named(name: &Name, other: &Option<Name>) -> bool
     ensures { result ≡ spec.is_named name.now other.now }
 {
     match other {
