@@ -141,15 +141,19 @@ agree_of rows = do
   base ← base_of rows
   Some (record { mpd = mpd; base = base })
 
--- the decimals of a number of seconds, of which the first nine count, in nanoseconds: at most 10 seconds
+-- The decimals of a number of seconds, of which the first nine count, in nanoseconds: at most 10 seconds. So long a text that has more
+-- than nine decimals is below 10 seconds.
 abbrev pub is_decimal_byte : ℕ → Bool
 is_decimal_byte b = is_ascii_digit b || b == 46
+
+abbrev pub is_short_decimal : Text → Bool
+is_short_decimal text = nat_le (length text) 12 && list_all is_decimal_byte text
 
 abbrev pub at_most_ten_seconds : ℕ → Option ℕ
 at_most_ten_seconds nanos = if nat_le nanos (10 ^ 10) then Some nanos else None
 
 abbrev pub seconds_in : Text → Option ℕ
-seconds_in text = if list_all is_decimal_byte text
+seconds_in text = if is_short_decimal text
     then result_ok (duration_of (codes "PT" ++ text ++ codes "S")) >>= at_most_ten_seconds else None
 
 -- by default none

@@ -39,6 +39,9 @@ const MAX_FOLDER: usize = 242;
 /// The greatest tolerance of times: 10 seconds.
 const MAX_TOLERANCE: u64 = 10_000_000_000;
 
+/// The most bytes that its text has.
+const MAX_DECIMAL: usize = 12;
+
 impl<'a> Values<'a> {
     ghost use Rattle.clap.specs.Words.{first_of};
 
@@ -169,11 +172,12 @@ fn digits(text: &str) -> Option<Digits>
     }
 }
 
-/// A number of seconds with decimals, of which the first nine count.
+/// A number of seconds with decimals, of which the first nine count. It is too short to be above the greatest tolerance by less
+/// than a nanosecond.
 fn seconds(alloc: Global, text: &str) -> Result<Nanos, WordsFault>
     ensures { IsGiven (seconds_in text.now) result }
 {
-    if !are_decimal(text.as_bytes()) {
+    if text.len() > MAX_DECIMAL || !are_decimal(text.as_bytes()) {
         return Err(WordsFault::NoJob);
     }
     let duration = format!(in alloc; "PT{text}S")?;
