@@ -28,6 +28,6 @@ files_in store name = get_by_text store.files name
 abbrev pub reads_in : MemStore → Schedule
 reads_in store = store.reads
 
--- a store's calls of `create` and `append`
+-- a store's calls of `create`, `append` and `put_in_place`
 abbrev pub writes_in : MemStore → Schedule
 writes_in store = store.writes

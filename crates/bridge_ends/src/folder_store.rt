@@ -13,8 +13,8 @@ use std::{fs, io};
 ///
 /// A file's path is the directory's, `/` and the name, which has no `..` and isn't an absolute path. Symbolic links are
 /// followed. The file that was read last stays open until another one is read, or it is read from its first byte again: so
-/// all bytes come from the file that was opened, even if another one replaces it meanwhile. The file that was appended to
-/// last stays open until another one is, or it is created anew.
+/// all bytes come from the file that was opened, even if another one replaces it meanwhile. The file that was created or
+/// appended to last stays open until another one is.
 #[derive(Drop)]
 pub struct FolderStore<R: Files> {
     pub(crate) files: R,
@@ -22,7 +22,7 @@ pub struct FolderStore<R: Files> {
     pub(crate) folder: String,
     /// What was read last.
     pub(crate) source: Option<OpenFile<R::File>>,
-    /// What was appended to last.
+    /// What was created or appended to last.
     pub(crate) end: Option<OpenFile<R::File>>,
     /// The directory of the file that was created last, which exists.
     made: String,
@@ -88,9 +88,10 @@ impl<R: Files> Store for FolderStore<R> {
         let path = path_of(self.alloc, &self.folder, name)?;
         self.end = None;
         match create_empty(&self.files, &mut self.made, path.as_str()) {
-            Ok(()) => Ok(()),
-            Err(error) => Err(counted(&mut self.write_faults, error)),
+            Ok(file) => self.end = Some(OpenFile { path, file }),
+            Err(error) => return Err(counted(&mut self.write_faults, error)),
         }
+        Ok(())
     }
 
     /// Writes until the whole piece is taken. Creates missing directories, as `create` does.
@@ -146,11 +147,10 @@ fn read_from<R: Files>(
     Ok(n)
 }
 
-fn create_empty<R: Files>(files: &R, made: &mut String, path: &str) -> io::Result<()> {
+fn create_empty<R: Files>(files: &R, made: &mut String, path: &str) -> io::Result<R::File> {
     make_folders(files, made, path)?;
     check_kind(files, path)?;
-    let _file = fs::create(files, path)?;
-    Ok(())
+    fs::create(files, path)
 }
 
 /// Whether the path is missing, a file or a directory: opening something else might block for ever.
@@ -163,7 +163,7 @@ fn check_kind<R: Files>(files: &R, path: &str) -> io::Result<()> {
     }
 }
 
-/// Appends a piece to a file, which is open where it was appended to last. An error closes it.
+/// Appends a piece to a file, which is open where it was created or appended to last. An error closes it.
 fn append_to<R: Files>(
     files: &R,
     open: &mut Option<OpenFile<R::File>>,

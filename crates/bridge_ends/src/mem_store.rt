@@ -15,8 +15,8 @@ use bridge_io::{Bytes, Fail, Name, NoMemory, Store};
 use std::alloc::Global;
 use std::collections::BTreeMap;
 
-/// Files in memory as a store. The calls of `has` and `read_at` in one list fail, and the calls of `create` and
-/// `append` in a second list, each counted from 0.
+/// Files in memory as a store. The calls of `has` and `read_at` in one list fail, and the calls of `create`, `append` and
+/// `put_in_place` in a second list, each counted from 0.
 #[derive(Drop)]
 pub struct MemStore {
     pub(crate) alloc: Global,
