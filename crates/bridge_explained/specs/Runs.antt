@@ -1,6 +1,6 @@
 -- What a run with explanations does: what the run without them does, and lines behind its report.
 use Rattle.bridge_courses.specs.declared.status.Status.TheVariants as status
-use Rattle.std.specs.Prelude.{◌≡◌, ◌⊎◌, ◌≤◌, ℕ, List, Option, Some, None}
+use Rattle.std.specs.Prelude.{◌≡◌, ◌⊎◌, ◌≤◌, ℕ, List, Option, Some, None, unwrap_or}
 use Rattle.std.specs.Option.{ForSome}
 use Rattle.bridge_io.specs.declared.outside.Sink.{Ghosts as Sink}
 use Rattle.bridge_io.specs.declared.outside.Store.{Ghosts as Store}
@@ -9,7 +9,7 @@ use Rattle.bridge_jobs.specs.Jobs.{job_of}
 use Rattle.bridge_courses.specs.declared.status.Status.{Status}
 use Rattle.bridge_courses.specs.declared.ending.Ending.TheVariants as ending
 use Rattle.bridge_courses.specs.{Courses.World, Executions.{IsExecution, Tells, status_by}, Laws.IsCalm}
-use Rattle.bridge_core.specs.Courses.{ReadsNoFile, WritesNoFile, course_of}
+use Rattle.bridge_core.specs.Courses.{ReadRose, ReadsNoFile, WritesNoFile, course_of}
 use Rattle.bridge_core.specs.Reports.{TellsItsEnd}
 use Rattle.bridge_explained.specs.Words.{plain_words}
 
@@ -22,6 +22,8 @@ pub record IsPlainRun (words : List (List ℕ)) (files : Option Files) (input : 
   pub complete : ForSome (course_of words files input)
       (λ course. IsCalm before after → (end ≡ status_by course.end.verdict) ⊎ (end ≡ status.Memory))
   pub usage : end ≡ status.Words → job_of words ≡ None
+  pub read_fault : end ≡ status.ReadFault
+      → ReadRose (job_of words) before.input_faults after.input_faults before.read_faults after.read_faults
   pub write_fault : end ≡ status.WriteFault → Rose before.write_faults after.write_faults ⊎ Rose before.report_faults after.report_faults
   pub told : TellsItsEnd end before.report_faults after.report_faults before.report after.report
   pub reads : ReadsNoFile (job_of words) → after.read_faults ≡ before.read_faults
@@ -54,6 +56,10 @@ pub record IsRunWithNotes (words : List (List ℕ)) (files : Option Files) (inpu
   pub notes : AreNotes mid after
 
 -- ---- a run
+
+-- the words without `--explain`
+abbrev pub words_run : List (List ℕ) → List (List ℕ)
+words_run words = unwrap_or (plain_words words) words
 
 -- without `--explain`, or with the words that are left without it; or memory ran out for these
 abbrev pub IsRunOf : Option (List (List ℕ)) → (words : List (List ℕ)) → Option Files → Option (List ℕ) → Status → (before after : World) → Type 0

@@ -14,8 +14,9 @@ use bridge_io::{Ledger, NoMemory, Sink, Source, Steps, Store, Text};
 use std::alloc::Global;
 
 /// Runs a command line as [`bridge`] does. Where one of its words before `--` is `--explain`, the run is that of the words without
-/// it, and behind its report come lines that explain each refusal and what was dropped, which begin with two spaces. The explained
-/// files are read again for that; what can't be read or written isn't explained, and the status stays.
+/// it, and behind its report come lines that explain what was rejected, of updates and snapshots the first hundred, and what was
+/// dropped. They begin with two spaces. The explained files are read again for that; what can't be read or written isn't explained,
+/// and the status stays.
 pub fn explained_bridge<I: Source, F: Store, P: Sink + Drop, L: Ledger>(
     alloc: Global,
     words: &[Text],
@@ -27,6 +28,7 @@ pub fn explained_bridge<I: Source, F: Store, P: Sink + Drop, L: Ledger>(
     ensures run { spec.IsExplainedRun words.now (F.files store.old) (I.remaining input.old) result
         (world_of I.Source F.Store ⟦<Overheard<P> as Sink>⟧ input.old store.old report.old steps.old)
         (world_of I.Source F.Store ⟦<Overheard<P> as Sink>⟧ input.new store.new report.new steps.new) }
+    ensures input { (Follows (job_of (spec.words_run words.now)) → ⊥) → input.new ≡ input.old }
 {
     let Some(place) = explain_place(words) else {
         return bridge(alloc, words, input, store, report, steps);
@@ -49,6 +51,7 @@ fn explained<I: Source, F: Store, P: Sink + Drop, L: Ledger>(
     ensures run { spec.IsRunWithNotes words.now (F.files store.old) (I.remaining input.old) result
         (world_of I.Source F.Store ⟦<Overheard<P> as Sink>⟧ input.old store.old report.old steps.old)
         (world_of I.Source F.Store ⟦<Overheard<P> as Sink>⟧ input.new store.new report.new steps.new) }
+    ensures input { (Follows (job_of words.now) → ⊥) → input.new ≡ input.old }
 {
     let status = bridge(alloc, words, input, store, report, steps);
     write_notes(alloc, words, store, report);

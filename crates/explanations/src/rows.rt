@@ -163,7 +163,7 @@ static OF_JOB: [&str; 4] = [
     "1 a directory's URL as the URL Standard writes it, with a / at its end, and not too long",
     "2 playlists that are files below the base URL: copy them there, or give their base URL",
     "3 at most 500,000 segments in all playlists: split the presentation",
-    "4 a static MPD: check and agree compare VOD",
+    "4 a static MPD: check and agree compare VOD; compare takes a live one with --now",
 ];
 
 static OF_TEXT: [&str; 11] = [
