@@ -172,7 +172,7 @@ abbrev pub MastersAreOfBytes : Type 0
 MastersAreOfBytes = (file bytes : List ℕ) (masters : List MasterTrack) → master_in file bytes ≡ Ok masters
     → All (λ (master : MasterTrack). All (λ b. b < 256) master.address) masters
 
-module _ (bytes : MastersAreOfBytes) (folder file : List ℕ) (files : Files) (side : Side) where
+module _ (folder file : List ℕ) where
   names_by_url : (masters : List MasterTrack) (url : Option (List ℕ)) (found : List FileName) → names_by file masters url ≡ Ok found
       → AreOwn [] found × (length found ≡ length masters)
   names_by_url masters None found is = absurd (cc)
@@ -180,11 +180,12 @@ module _ (bytes : MastersAreOfBytes) (folder file : List ℕ) (files : Files) (s
       let own = names_own file url [] masters found is in
       (subst (AreOwn []) (sym own.1.0) own.1.1.0, ap (λ (l : List FileName). length l) own.1.0 ∙ own.1.1.1)
 
-  names_in_folder : (masters : List MasterTrack) (found : List FileName) → names_in folder file masters ≡ Ok found
+  pub names_in_folder : (masters : List MasterTrack) (found : List FileName) → names_in folder file masters ≡ Ok found
       → AreOwn [] found × (length found ≡ length masters)
   unfolding names_in
   names_in_folder masters found is = names_by_url masters (url_under base folder) found is
 
+module _ (bytes : MastersAreOfBytes) (folder file : List ℕ) (files : Files) (side : Side) where
   by_text : (text : List ℕ) → content_of file files ≡ Ok text → side_by folder file files text ≡ Ok side → IsSideIn folder file files side
   by_text text content is =
       let masters = steps_of (master_in file text) (λ master. and_then (names_in folder file master)
@@ -195,7 +196,7 @@ module _ (bytes : MastersAreOfBytes) (folder file : List ℕ) (files : Files) (s
       let tracks = steps_of (tracks_from folder file files [] masters.value names.value) (λ tracks. Ok (side_with file text tracks)) side
       names.then in
       let same : side_with file text tracks.value ≡ side = (let e = tracks.then in cc) in
-      let own = names_in_folder masters.value names.value names.first in
+      let own = names_in_folder folder file masters.value names.value names.first in
       let are = all_in folder file files [] masters.value names.value tracks.value (bytes file text masters.value masters.first) own.1
       (All-nil (IsTrackIn folder files)) tracks.first in
       subst (IsSideIn folder file files) same (record {

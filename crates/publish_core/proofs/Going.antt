@@ -5,7 +5,7 @@ use Rattle.std.proofs.Common.{slice_get, Option, Some, None}
 use Rattle.std.proofs.Common.{Result, Ok, Err, ap, refl, sym, subst, ◌∙◌}
 use Rattle.std.proofs.lemmas.{List.Elements.{All-nil, All-push}}
 use Rattle.std.specs.{Prelude.{nat_lt, if◌then◌else◌}}
-use Rattle.bridge_io.specs.{Answer.and_then}
+use Rattle.bridge_io.specs.{Answer.and_then, Outside.Files}
 use Rattle.bridge_io.proofs.AndThen.{steps_of}
 use Rattle.followed_text.specs.{Followed.text_of, declared.followed.FollowedText.FollowedText}
 use Rattle.laws_of_publishing.specs.Laws.{Accepted}
@@ -18,18 +18,23 @@ use Rattle.publish_core.specs.Decisions.{master_if, names_of, new_file, next_by,
 use Rattle.publish_core.specs.Decisions.{text_within, unless_many, with_list}
 use Rattle.publish_core.specs.{Laws.{Decided, PublicationsWriteLists, WritesList}, Names.{master_file, name_in}}
 use Rattle.publish_core.specs.Sides.{are_same_tracks, segment_limit, side_at}
-use Rattle.publish_core.specs.declared.{decision.{Decision.Decision, NewFile.NewFile}, next.FileNames.FileNames}
-use Rattle.publish_core.specs.declared.side.{SideTrack.SideTrack}
-use Rattle.publish_core.proofs.{InOrder.{are_tracks, chosen, side_in_order}, Ordered.ReadIsInOrder, Within.{small_list, taken}}
+use Rattle.publish_core.specs.declared.{decision.{Decision.Decision, NewFile.NewFile}, job.PublishJob.PublishJob, next.FileNames.FileNames}
+use Rattle.publish_core.specs.declared.side.{Side.Side, SideTrack.SideTrack}
+use Rattle.publish_core.proofs.{InOrder.{are_tracks, chosen, side_in_order}, Ordered.ReadIsInOrder, Within.{Taken, small_list, taken}}
 
 -- ---- choices
 
-if_true : {X : Type 0} (b : Bool) (x y z : X) → b ≡ true → (if b then x else y) ≡ z → x ≡ z
+pub if_true : {X : Type 0} (b : Bool) (x y z : X) → b ≡ true → (if b then x else y) ≡ z → x ≡ z
 if_true true x y z is whole = whole
 if_true false x y z is whole = absurd (cc)
 
 next_is : {X Y E : Type 0} (r : Result X E) (x : X) (next : X → Result Y E) (y : Result Y E) → r ≡ Ok x → and_then r next ≡ y → next x ≡ y
 next_is r x next y is whole = subst (λ q. and_then q next ≡ y) is whole
+
+-- what isn't refused
+pub passed : {X E : Type 0} (b : Bool) (x y : X) (e : E) → (if b then Err e else Ok x) ≡ Ok y → b ≡ false
+passed true x y e is = absurd (cc)
+passed false x y e is = refl
 
 drop_next : {X : Type 0} (n : ℕ) (ys : List X) (x : X) (xs : List X) → x ∷ xs ≡ drop n ys
     → (slice_get ys n ≡ Some x) × (xs ≡ drop (suc n) ys)
@@ -101,16 +106,19 @@ module _ (a : Accepted) (served : List SideTrack) where
 -- ---- the decision
 
 pub record Parts (p : Decided) : Type 0 where
+  pub same : are_same_tracks p.new.tracks p.served.tracks ≡ true
   pub publication : Publication
   pub is : published p.job.options (paired p.new.tracks p.served.tracks) ≡ Ok publication
   pub lists : List NewFile
   pub changed : changed_files [] (names_of p.new.tracks p.served.tracks) publication.changes ≡ Ok lists
+  pub few : nat_lt segment_limit (segments_after (paired p.new.tracks p.served.tracks) publication.changes) ≡ false
   pub files : p.decision.files ≡ lists ++ master_if p.new p.served
 
-parts_by : (p : Decided) (r : Result Publication PublishFault) → published p.job.options (paired p.new.tracks p.served.tracks) ≡ r
+parts_by : (p : Decided) (r : Result Publication PublishFault) → are_same_tracks p.new.tracks p.served.tracks ≡ true
+    → published p.job.options (paired p.new.tracks p.served.tracks) ≡ r
     → next_by p.new p.served (names_of p.new.tracks p.served.tracks) (paired p.new.tracks p.served.tracks) r ≡ Ok p.decision → Parts p
-parts_by p (Err f) read is = absurd (cc)
-parts_by p (Ok publication) read is =
+parts_by p (Err f) same_tracks read is = absurd (cc)
+parts_by p (Ok publication) same_tracks read is =
     let names = names_of p.new.tracks p.served.tracks in
     let tracks = paired p.new.tracks p.served.tracks in
     let steps = steps_of (next_files p.new.file names tracks publication.changes)
@@ -121,33 +129,41 @@ parts_by p (Ok publication) read is =
     steps.value (p.new.file, refused.Limit) changed.then in
     let same : decided_with (steps.value ++ master_if p.new p.served) publication ≡ p.decision = (let e = steps.then in cc) in
     record {
+      same = same_tracks;
       publication = publication;
       is = read;
       lists = steps.value;
       changed = changed.first ∙ ap Ok kept;
+      few = passed (nat_lt segment_limit (segments_after tracks publication.changes)) changed.value steps.value (p.new.file, refused.Limit)
+          changed.then;
       files = ap (λ (d : Decision). d.files) (sym same);
     }
 
-pub decided_next : (p : Decided) → next_of p.job p.new p.served ≡ Ok p.decision
+-- the new master is taken
+pub new_taken : (job : PublishJob) (files : Files) (new : Side) (decision : Decision)
+    → side_at job.new files (name_in job.new master_file) ≡ Ok new → decision_of job files ≡ Ok decision
+    → Taken (is_taken job new) (decision_with job files new) decision
 unfolding decision_of
+new_taken job files new decision new_is is = taken (is_taken job new) (decision_with job files new) (new.file, refused.Form) decision
+    (next_is (side_at job.new files (name_in job.new master_file)) new
+    (λ side. if is_taken job side then decision_with job files side else Err (side.file, refused.Form)) (Ok decision) new_is is)
+
+pub decided_next : (p : Decided) → next_of p.job p.new p.served ≡ Ok p.decision
 decided_next p =
     let file = name_in p.job.served master_file in
     let read = and_then (side_at p.job.served p.files file) (next_of p.job p.new) in
     next_is (side_at p.job.served p.files file) p.served (next_of p.job p.new) (Ok p.decision) p.served_is
     (if_true (is_there p.files file) read (first_of p.job p.new) (Ok p.decision) p.there
-    (taken (is_taken p.job p.new) (decision_with p.job p.files p.new) (p.new.file, refused.Form) p.decision
-    (next_is (side_at p.job.new p.files (name_in p.job.new master_file)) p.new
-    (λ new. if is_taken p.job new then decision_with p.job p.files new else Err (new.file, refused.Form))
-    (Ok p.decision) p.new_is p.is)).value)
+    (new_taken p.job p.files p.new p.decision p.new_is p.is).value)
 
 pub parts_of : (p : Decided) → next_of p.job p.new p.served ≡ Ok p.decision → Parts p
 unfolding next_of
 parts_of p is =
     let names = names_of p.new.tracks p.served.tracks in
     let tracks = paired p.new.tracks p.served.tracks in
-    parts_by p (published p.job.options tracks) refl
-    (taken (are_same_tracks p.new.tracks p.served.tracks) (next_by p.new p.served names tracks (published p.job.options tracks))
-    (p.new.file, refused.Tracks) p.decision is).value
+    let whole = taken (are_same_tracks p.new.tracks p.served.tracks)
+    (next_by p.new p.served names tracks (published p.job.options tracks)) (p.new.file, refused.Tracks) p.decision is in
+    parts_by p (published p.job.options tracks) whole.holds refl whole.value
 
 -- the lists of both folders
 abbrev pub accepted_of : ReadIsInOrder → (p : Decided) → Parts p → Accepted

@@ -24,7 +24,7 @@ use Rattle.publish_core.proofs.{Apart.{AreApart, IsOther, IsTrackIn}}
 
 -- ---- names in a folder
 
-named : (folder file name : List ℕ) → name_in folder file ≡ Some name → name ≡ folder ++ codes "/" ++ file
+pub named : (folder file name : List ℕ) → name_in folder file ≡ Some name → name ≡ folder ++ codes "/" ++ file
 unfolding name_in
 named folder file name is = elim (cases_Bool (is_name (folder ++ codes "/" ++ file))) [
   | inl whole ↦ sym (same_Some (folder ++ codes "/" ++ file) name (rw whole at is))

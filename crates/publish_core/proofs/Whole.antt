@@ -59,20 +59,20 @@ module _ (tracks : TracksAreOfBytes) (file bytes : List ℕ) (masters : List Mas
   by_url None of is = absurd (cc)
   by_url (Some url) of is = of_master url (url_is file url of) (master_of bytes url) refl is
 
-of_bytes : TracksAreOfBytes → MastersAreOfBytes
+pub of_bytes : TracksAreOfBytes → MastersAreOfBytes
 unfolding master_in
 of_bytes tracks file bytes masters is = by_url tracks file bytes masters (file_url base file) refl is
 
 -- ---- the folders
 
 -- a side with the name of its master
-record IsSide (folder : List ℕ) (files : Files) (side : Side) : Type 0 where
-  file : List ℕ
-  file_is : name_in folder master_file ≡ Some file
-  is : IsSideIn folder file files side
+pub record IsSide (folder : List ℕ) (files : Files) (side : Side) : Type 0 where
+  pub file : List ℕ
+  pub file_is : name_in folder master_file ≡ Some file
+  pub is : IsSideIn folder file files side
 
-side_is : MastersAreOfBytes → (folder : List ℕ) (files : Files) (side : Side) (file : Option (List ℕ)) → name_in folder master_file ≡ file
-    → side_at folder files file ≡ Ok side → IsSide folder files side
+pub side_is : MastersAreOfBytes → (folder : List ℕ) (files : Files) (side : Side) (file : Option (List ℕ))
+    → name_in folder master_file ≡ file → side_at folder files file ≡ Ok side → IsSide folder files side
 side_is bytes folder files side None of is = absurd (cc)
 side_is bytes folder files side (Some file) of is = record { file = file; file_is = of; is = side_in bytes folder files file side is }
 

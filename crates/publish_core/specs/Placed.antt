@@ -1,5 +1,5 @@
 -- Files that take their places one after another.
-use Rattle.std.specs.Prelude.{◌≡◌, ◌⊎◌, ℕ, ◌≤◌, List, [], ◌∷◌, take, length, bytes_eq, if◌then◌else◌, Option}
+use Rattle.std.specs.Prelude.{◌≡◌, ◌⊎◌, ℕ, ◌<◌, List, [], ◌∷◌, take, length, bytes_eq, if◌then◌else◌, Option}
 use Rattle.bridge_io.specs.Outside.{Changes, Files, put}
 use Rattle.bridge_ends.specs.Moved.{moved}
 use Rattle.publish_core.specs.declared.decision.NewFile.{NewFile}
@@ -20,10 +20,10 @@ with_file name bytes files q = if bytes_eq name q then bytes else files q
 abbrev pub MayChange : (name : List ℕ) → Option Files → Option Files → Type 0
 MayChange name before after = (after ≡ before) ⊎ ((left : Option (List ℕ)) × Changes (with_file name left) before after)
 
--- Of some files the first `count` took their places, the pending file has anything, and every other file is as before.
+-- Of some files the first `count` took their places, and others didn't. The pending file has anything, and every other file is as before.
 pub record AreCut (pending : List ℕ) (files : List NewFile) (before after : Option Files) : Type 0 where
   pub count : ℕ
-  pub within : count ≤ length files
+  pub within : count < length files
   pub mid : Option Files
   pub placed : Changes (all_placed pending (take count files)) before mid
   pub left : MayChange pending mid after

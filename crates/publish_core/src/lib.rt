@@ -18,5 +18,9 @@ mod words;
 mod written;
 
 pub use bridge_courses::Status;
-pub use laws::{calm_runs_are_decided, publications_are_served, publications_write_lists};
+pub use laws::{
+    a_first_publication_again_is_unchanged, calm_runs_are_decided, first_folders_are_read,
+    jobs_are_proper, publications_again_are_unchanged, publications_are_served,
+    publications_write_lists, runs_again_change_nothing, served_folders_are_read,
+};
 pub use top::publish;
