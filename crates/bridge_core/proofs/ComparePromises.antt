@@ -10,7 +10,7 @@ use Rattle.bridge_io.proofs.AndThen.{steps_of}
 use Rattle.bridge_io.specs.{Answer.and_then, Firsts.first_of, Names.is_name, Outside.Files}
 use Rattle.bridge_jobs.specs.declared.jobs.CompareJob.{CompareJob}
 use Rattle.laws_of_mpds.specs.{PresentedFiles.{ListedMeanTheirFiles, MeanTheSame, PresentedMeanTheirFiles}, Written.ReadHaveRates}
-use Rattle.meaning.specs.{Differences.first_difference, Meanings.Meaning, declared.difference.Difference.Difference}
+use Rattle.meaning.specs.{Differences.first_difference, declared.difference.Difference.Difference}
 use Rattle.mpd_levels.specs.Segments.{Segments}
 use Rattle.mpd_rules.specs.Typed.{TypedMpd}
 use Rattle.presentation.proofs.Filling.{ok_under}
@@ -115,7 +115,7 @@ compared_tells_all texts rates meant listed alike greatest words job input cours
       all = all;
       exactly = sym (alike job.within (10 ^ job.check.digits) (meaning_of by.mpd) playlists.0 (meaning_of by.playlists) playlists.1.1);
       shown = by.mpd;
-      shows = refl;
+      is_shown = by.mpd_read;
       verdict = by.verdict;
       told = by.line
           ∙ ap (λ greatest. text_of (record { first = take job.most all; count = capped (length all); greatest = greatest }) by.mpd)
@@ -125,7 +125,8 @@ compared_tells_all texts rates meant listed alike greatest words job input cours
 -- ---- beside `check`
 
 abbrev FirstIsFirst : Type 0
-FirstIsFirst = (unit : ℕ) (a b : Meaning) → first_deviation 0 unit a b ≡ first_difference unit a b
+FirstIsFirst = (unit : ℕ) (p q : Presented)
+    → first_deviation 0 unit (meaning_of p) (meaning_of q) ≡ first_difference unit (meaning_of p) (meaning_of q)
 
 leads : (line later tracks count : List ℕ) → ((line ++ later) ++ tracks) ++ count ≡ line ++ (later ++ (tracks ++ count))
 leads line later tracks count = simp append_assoc
@@ -192,7 +193,7 @@ module _ (firsts : FirstIsFirst) (most : ℕ) (some : 1 ≤ most) where
   both_alike unit (Ok p) (Err named) = refused_alike named
   both_alike unit (Ok p) (Ok q) =
       told_alike most (deviations 0 unit (meaning_of p) (meaning_of q)) (tracks_greatest (meaning_of p).tracks (meaning_of q).tracks) p
-      (first_difference unit (meaning_of p) (meaning_of q)) some (firsts unit (meaning_of p) (meaning_of q))
+      (first_difference unit (meaning_of p) (meaning_of q)) some (firsts unit p q)
 
 at_alike : FirstIsFirst → (job : CompareJob) (files : Files) → job.instant ≡ None → job.within ≡ 0 → 1 ≤ job.most
     → (places : Option (StorePlace × StorePlace))

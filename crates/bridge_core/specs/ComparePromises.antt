@@ -1,18 +1,19 @@
 -- What `compare` guarantees.
 use Rattle.bridge_jobs.specs.declared.jobs.Job.TheVariants as jobs
 use Rattle.bridge_courses.specs.declared.status.Verdict.TheVariants as verdict
-use Rattle.std.specs.Prelude.{◌≡◌, ◌≤◌, ℕ, ◌^◌, Bool, List, ◌++◌, length, take, Option, Some, None}
+use Rattle.std.specs.Prelude.{◌≡◌, ◌≤◌, ℕ, ◌^◌, Bool, List, ◌++◌, length, take, Ok, Option, Some, None}
 use Rattle.bridge_io.specs.Outside.{Files}
 use Rattle.meaning.specs.Meanings.{Meaning}
 use Rattle.differences.specs.{Alike.without_starts, Deviating.{deviations, tracks_greatest}, declared.deviation.Deviation.Deviation}
-use Rattle.presentation.specs.{Counting.capped, Meanings.meaning_of, Presented.Presented}
+use Rattle.presentation.specs.{Counting.capped, Presented.Presented}
 use Rattle.mpd_presentation.specs.Meanings.{dash_meaning}
 use Rattle.hls_meaning.specs.Meanings.{hls_meaning}
 use Rattle.bridge_jobs.specs.{Jobs.job_of, declared.jobs.CompareJob.CompareJob}
 use Rattle.bridge_courses.specs.{Courses.Course, declared.status.Verdict.Verdict}
 use Rattle.bridge_report.specs.Outcomes.{Outcome, Ends}
 use Rattle.bridge_playlists.specs.{declared.place.StorePlace.StorePlace, Places.store_place_of}
-use Rattle.bridge_compare.specs.{Check.{check_outcome, differ_line}, Compare.{compare_outcome, text_of, verdict_of}}
+use Rattle.bridge_compare.specs.{Check.{check_outcome, differ_line}, Compare.{compare_outcome, live_refusal, text_of, verdict_of}}
+use Rattle.bridge_steps.specs.Manifests.{mpd_at}
 use Rattle.bridge_compare.specs.Lines.{deviation_line, track_lines}
 use Rattle.bridge_core.specs.Courses.{course_of}
 
@@ -31,7 +32,7 @@ pub record AreMeantAt (job : CompareJob) (files : Files) (mpd playlists : Meanin
 
 -- What is told is a list of differences: these are exactly those of both meanings above the tolerance, in order, and told as they are,
 -- but for the starts of segments. The first ones are listed, all are counted, the greatest one of time is told for each track, and the
--- run is done where there is none.
+-- run is done where there is none, with the numbers of the MPD's tracks, sections and segments.
 pub record TellsAll (job : CompareJob) (files : Files) (end : Verdict) (line : List ℕ) : Type 0 where
   pub mpd : Meaning
   pub playlists : Meaning
@@ -39,7 +40,7 @@ pub record TellsAll (job : CompareJob) (files : Files) (end : Verdict) (line : L
   pub all : List Deviation
   pub exactly : without_starts all ≡ without_starts (deviations job.within (10 ^ job.check.digits) mpd playlists)
   pub shown : Presented
-  pub shows : meaning_of shown ≡ mpd
+  pub is_shown : mpd_at (live_refusal job.instant) (10 ^ job.check.digits) job.instant meant.source files ≡ Ok shown
   pub verdict : end ≡ verdict_of (capped (length all))
   pub told : line ≡ text_of (record {
     first = take job.most all;

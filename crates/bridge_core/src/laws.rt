@@ -7,7 +7,9 @@ ghost use Rattle.bridge_core.specs.TimesPromises.{DifferHasAnother, DoneHasTheFi
 use bridge_courses::{a_verdict_keeps_the_steps, done_is_whole};
 use bridge_jobs::laws::folders_hold_their_files;
 use bridge_reach::{what_agrees_has_the_files_times, what_is_written_has_the_files_times};
-use differences::{the_first_is_the_first_difference, the_same_deviate_alike};
+use differences::{
+    presentations_have_sections, the_first_is_the_first_difference, the_same_deviate_alike,
+};
 use hls_media::what_is_read_is_bounded;
 use laws_of_mpds::{
     listed_mean_their_files, presented_mean_their_files, read_tracks_can_be_written,
@@ -103,6 +105,7 @@ pub fn what_is_compared_is_all_that_differs()
 pub fn comparing_is_checking()
     ensures { ComparedAsChecked }
 {
+    presentations_have_sections();
     the_first_is_the_first_difference();
 }
 

@@ -1,3 +1,3 @@
-mod Walks
-mod Ratios
+pub mod Walks
+pub mod Ratios
 mod Opened

@@ -119,6 +119,7 @@ module _ (p : Presented) (s t : ℕ) where
         → AreAddressed rest
     addressed initialization begins left all = addressed_in initialization (content_at p s t) begins left all
 
+  module _ (unit : ℕ) where
     own_in : (o : Option Content) → content_at p s t ≡ o → All (λ (content : Content). IsAddressed content.runs) p.contents
         → IfSome o (λ content. All (λ x. HasAddress content.runs x.times) (printed_timings unit (listed_at p s t)))
     own_in None is all = tt

@@ -1,11 +1,13 @@
 // A time as the difference of two ticks.
-ghost use Rattle.std.specs.Prelude.{◌<◌};
+ghost use Rattle.std.specs.Prelude.{◌<◌, ◌^◌, unsigned_abs};
 
 /// A time from one tick to another, which is negative where the second is the earlier one.
 #[derive(Clone, Copy)]
-pub(crate) struct Elapsed {
-    pub(crate) ticks: i128,
+pub struct Elapsed {
+    /// How many ticks.
+    pub ticks: i128,
     /// How many ticks make a second.
-    pub(crate) scale: u64,
+    pub scale: u64,
     ghost positive: { 0 < scale },
+    ghost bounded: { unsigned_abs ticks < 2 ^ 97 },
 }

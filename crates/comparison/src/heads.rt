@@ -63,7 +63,8 @@ fn is_same_track(mine: &Track, theirs: &Track) -> bool
     is_same_kind(mine.kind, theirs.kind) && is_same_language(language_of(mine), language_of(theirs))
 }
 
-fn is_same_kind(mine: Kind, theirs: Kind) -> bool
+/// Whether two tracks are of one kind.
+pub fn is_same_kind(mine: Kind, theirs: Kind) -> bool
     ensures { result ≡ is_same_kind mine theirs }
 {
     matches!(
@@ -73,7 +74,7 @@ fn is_same_kind(mine: Kind, theirs: Kind) -> bool
 }
 
 /// The language, which a video track doesn't have.
-fn language_of(track: &Track) -> Option<&str>
+pub fn language_of(track: &Track) -> Option<&str>
     ensures { option_map (λ language. language.now) result ≡ language_of track.now.kind track.now.language }
 {
     match (track.kind, &track.language) {
@@ -82,7 +83,8 @@ fn language_of(track: &Track) -> Option<&str>
     }
 }
 
-fn is_same_language(mine: Option<&str>, theirs: Option<&str>) -> bool
+/// Whether two languages are the same, or none is known of either track.
+pub fn is_same_language(mine: Option<&str>, theirs: Option<&str>) -> bool
     ensures { result ≡ option_eq bytes_eq (option_map (λ language. language.now) mine.entry)
         (option_map (λ language. language.now) theirs.entry) }
 {

@@ -13,4 +13,9 @@ mod spot;
 mod stretch;
 mod walk;
 
+pub use elapsed::Elapsed;
+pub use heads::{is_same_kind, is_same_language, language_of};
 pub use presentations::compare;
+pub use spot::Spot;
+pub use stretch::{Stretch, is_same_or_rounded};
+pub use walk::Walk;

@@ -6,15 +6,18 @@ use meaning::{Aspect, Difference};
 
 /// A segment of a track in a section, each by its index from 0.
 #[derive(Clone, Copy, Debug)]
-pub(crate) struct Spot {
-    pub(crate) section: usize,
-    pub(crate) track: usize,
-    pub(crate) segment: usize,
+pub struct Spot {
+    /// The section.
+    pub section: usize,
+    /// The track.
+    pub track: usize,
+    /// The segment of the track in the section.
+    pub segment: usize,
 }
 
 impl Spot {
     /// The spot of another segment of the track in the section.
-    pub(crate) fn at(self, segment: usize) -> Spot
+    pub fn at(self, segment: usize) -> Spot
         ensures section { result.section ≡ self.section }
         ensures track { result.track ≡ self.track }
         ensures segment { result.segment ≡ segment }
@@ -23,7 +26,7 @@ impl Spot {
     }
 
     /// A difference here.
-    pub(crate) fn of(self, what: Aspect) -> Difference
+    pub fn of(self, what: Aspect) -> Difference
         ensures { result ≡ in_entry self.track self.section self.segment what }
     {
         Difference {

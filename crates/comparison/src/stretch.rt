@@ -12,14 +12,16 @@ use std::cmp::Ordering;
 
 /// The start of a track's first segment in a section, and the end of one of its segments.
 #[derive(Clone, Copy)]
-pub(crate) struct Stretch {
-    pub(crate) begin: Tick,
-    pub(crate) end: Tick,
+pub struct Stretch {
+    /// The start of the first segment.
+    pub begin: Tick,
+    /// The end of the segment.
+    pub end: Tick,
 }
 
 impl Stretch {
     /// Its length.
-    fn elapsed(self) -> Elapsed
+    pub fn elapsed(self) -> Elapsed
         ensures { time_since result ≡ stretch_of self }
     {
         let Stretch { begin, end } = self;
@@ -80,7 +82,7 @@ impl Elapsed {
 
 /// Whether the second stretch is as long as the first one, or as that one rounded down to whole units, of which `unit` make
 /// a second.
-pub(crate) fn is_same_or_rounded(mine: Stretch, theirs: Stretch, unit: u32) -> bool
+pub fn is_same_or_rounded(mine: Stretch, theirs: Stretch, unit: u32) -> bool
     requires positive { 0 < unit }
     requires high { unit ≤ 10 ^ 9 }
     ensures { result ≡ is_same_or_rounded unit (stretch_of mine) (stretch_of theirs) }

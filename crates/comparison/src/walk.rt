@@ -12,7 +12,7 @@ use timeline::{ListFault, Segment};
 ///
 /// In a contract it is the meaning of those that are left.
 #[derive(Drop)]
-pub(crate) struct Walk<'a> {
+pub struct Walk<'a> {
     segments: PrintedSegments<'a>,
 }
 
@@ -29,7 +29,8 @@ impl<'a> Model for Walk<'a> {
 }
 
 impl<'a> Walk<'a> {
-    pub(crate) fn over(segments: PrintedSegments<'a>) -> Walk<'a>
+    /// An iterator over the listed segments of a track in a section.
+    pub fn over(segments: PrintedSegments<'a>) -> Walk<'a>
         requires { AreAddressed segments }
         ensures { result ≡ segments_left segments.entry }
     {
@@ -37,7 +38,7 @@ impl<'a> Walk<'a> {
     }
 
     /// Makes the next segment; `None` exactly at the end.
-    pub(crate) fn next<L: Ledger>(
+    pub fn next<L: Ledger>(
         &mut self,
         alloc: Global,
         steps: &mut Steps<L>,

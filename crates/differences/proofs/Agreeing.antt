@@ -4,6 +4,7 @@ use Rattle.std.proofs.Common.{bytes_eq, refl, sym}
 use Rattle.std.proofs.{Common.{◌∙◌, ap, subst, arith}}
 use Rattle.std.proofs.{lemmas.Bool.Decides.{Decides-eqb, Decides-int_eq, Decides-and, Decides-or, nat_tests}}
 use Rattle.std.proofs.{lemmas.Bool.Decides.Decides-like, lemmas.Slice.Eq.bytes_eq-Decides}
+use Rattle.std.proofs.lemmas.List.Elements.{All-head, All-tail}
 use Rattle.std.specs.{Bool.Decides, Option.option_eq, Prelude.nat_le}
 use Rattle.exact_time.specs.Time.{Time, cross, difference}
 use Rattle.bridge_io.specs.{declared.media.Kind.Kind, declared.media.Kind.TheVariants.{Video, Audio, Text}}
@@ -12,7 +13,7 @@ use Rattle.meaning.specs.{declared.difference.Aspect.Aspect, declared.difference
 use Rattle.meaning.specs.{Meanings.Meaning, Same.{Pairwise, SameSegment, SameEntries, SameTrack, begin_of, rounded_down}}
 use Rattle.meaning.specs.Differences.{in_entry, rank_of, is_same_kind, is_same_range, is_same_part}
 use Rattle.meaning.proofs.SameLemmas.{Pairwise-wider, Pairwise-length}
-use Rattle.differences.specs.{Agreeing.{AgreesWithin, IsAlike}, Sizes.{is_alike, size_of}, declared.deviation.Deviation.Deviation}
+use Rattle.differences.specs.{Agreeing.{AgreesWithin, HasSections, HaveEntries, IsAlike, IsEntries}, Sizes.{is_alike, size_of}, declared.deviation.Deviation.Deviation}
 use Rattle.differences.specs.Deviating.{deviations, entries_deviations, entry_deviations, heads_deviations}
 use Rattle.differences.specs.Deviating.{segment_deviations, segments_deviations, tracks_deviations, unless}
 
@@ -121,12 +122,12 @@ module _ (within unit : ℕ) where
   Finds-entry t s None (Some b) = Finds-never _ _
   Finds-entry t s (Some a) None = Finds-never _ _
 
-  Finds-entries : (t s : ℕ) (xs ys : List (Option Entry))
+  Finds-entries : (t s : ℕ) (xs ys : List (Option Entry)) → length xs ≡ length ys
       → Finds (entries_deviations within unit t s xs ys) (Pairwise (SameEntries (IsAlike within unit)) xs ys)
-  Finds-entries t s [] [] = (λ h. refl, λ e. tt)
-  Finds-entries t s (a ∷ xs) (b ∷ ys) = Finds-or _ _ (Finds-entry t s a b) (Finds-entries t (s + 1) xs ys)
-  Finds-entries t s [] (b ∷ ys) = Finds-never _ _
-  Finds-entries t s (a ∷ xs) [] = Finds-never _ _
+  Finds-entries t s [] [] same = (λ h. refl, λ e. tt)
+  Finds-entries t s (a ∷ xs) (b ∷ ys) same = Finds-or _ _ (Finds-entry t s a b) (Finds-entries t (s + 1) xs ys (omega (arith, same)))
+  Finds-entries t s [] (b ∷ ys) same = absurd (omega (arith, same))
+  Finds-entries t s (a ∷ xs) [] same = absurd (omega (arith, same))
 
   -- the tracks, in lists of one length: what they are, and what they have
   abbrev SameBody : Track → Track → Type 0
@@ -138,12 +139,13 @@ module _ (within unit : ℕ) where
   Finds-heads t [] (b ∷ ys) same = absurd (omega arith)
   Finds-heads t (a ∷ xs) [] same = absurd (omega arith)
 
-  Finds-bodies : (t : ℕ) (xs ys : List Track) → length xs ≡ length ys
+  Finds-bodies : (n t : ℕ) (xs ys : List Track) → HaveEntries n xs → HaveEntries n ys → length xs ≡ length ys
       → Finds (tracks_deviations within unit t xs ys) (Pairwise SameBody xs ys)
-  Finds-bodies t [] [] same = (λ h. refl, λ e. tt)
-  Finds-bodies t (a ∷ xs) (b ∷ ys) same = Finds-or _ _ (Finds-entries t 0 a.entries b.entries) (Finds-bodies (t + 1) xs ys (omega arith))
-  Finds-bodies t [] (b ∷ ys) same = absurd (omega arith)
-  Finds-bodies t (a ∷ xs) [] same = absurd (omega arith)
+  Finds-bodies n t [] [] mine theirs same = (λ h. refl, λ e. tt)
+  Finds-bodies n t (a ∷ xs) (b ∷ ys) mine theirs same = Finds-or _ _ (Finds-entries t 0 a.entries b.entries (All-head (IsEntries n) a xs mine ∙ sym (All-head (IsEntries n) b ys theirs)))
+      (Finds-bodies n (t + 1) xs ys (All-tail (IsEntries n) a xs mine) (All-tail (IsEntries n) b ys theirs) (omega (arith, same)))
+  Finds-bodies n t [] (b ∷ ys) mine theirs same = absurd (omega (arith, same))
+  Finds-bodies n t (a ∷ xs) [] mine theirs same = absurd (omega (arith, same))
 
   both : (xs ys : List Track) → Pairwise SameHead xs ys → Pairwise SameBody xs ys → Pairwise (SameTrack (IsAlike within unit)) xs ys
   both [] [] heads bodies = tt
@@ -151,9 +153,9 @@ module _ (within unit : ℕ) where
   both [] (b ∷ ys) heads bodies = heads
   both (a ∷ xs) [] heads bodies = heads
 
-  pub Finds-all : (a b : Meaning) → Finds (deviations within unit a b) (AgreesWithin within unit a b)
+  pub Finds-all : (a b : Meaning) → HasSections a → HasSections b → Finds (deviations within unit a b) (AgreesWithin within unit a b)
   unfolding deviations
-  Finds-all a b = Finds-like _
+  Finds-all a b mine theirs = Finds-like _
       (λ (h : (a.sections ≡ b.sections) × ((length a.tracks ≡ length b.tracks)
       × (Pairwise SameHead a.tracks b.tracks × Pairwise SameBody a.tracks b.tracks))). record {
         sections = h.0;
@@ -169,6 +171,7 @@ module _ (within unit : ℕ) where
           ),
         ),
       ))
-      (Finds-or _ _ (Finds-unless _ _ (Decides-eqb a.sections b.sections))
-      (Finds-then _ _ (Finds-unless _ _ (Decides-eqb (length a.tracks) (length b.tracks)))
-      (λ same. Finds-or _ _ (Finds-heads 0 a.tracks b.tracks same) (Finds-bodies 0 a.tracks b.tracks same))))
+      (Finds-then _ _ (Finds-unless _ _ (Decides-eqb a.sections b.sections))
+      (λ sections. Finds-then _ _ (Finds-unless _ _ (Decides-eqb (length a.tracks) (length b.tracks)))
+      (λ same. Finds-or _ _ (Finds-heads 0 a.tracks b.tracks same)
+      (Finds-bodies b.sections 0 a.tracks b.tracks (subst (λ n. HaveEntries n a.tracks) sections mine) theirs same))))

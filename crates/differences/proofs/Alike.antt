@@ -16,7 +16,7 @@ use Rattle.meaning.specs.Differences.{in_all, in_entry, in_track, is_same_kind, 
 use Rattle.meaning.specs.Differences.{is_same_time}
 use Rattle.meaning.proofs.SameLemmas.{Pairwise-length}
 use Rattle.url_parts.specs.declared.address.Part.{Part}
-use Rattle.differences.proofs.Ratios.{same_tests}
+use Rattle.comparison.proofs.Ratios.{same_tests}
 use Rattle.differences.specs.Alike.{SameDeviateAlike, SameGreatest, without_start, without_starts}
 use Rattle.differences.specs.Sizes.{apart, is_alike, size_of}
 use Rattle.differences.specs.declared.deviation.{Deviation.Deviation, How.How}
@@ -167,7 +167,9 @@ module _ (within unit : ℕ) where
       × (entries_greatest xs ys ≡ entries_greatest xs zs)
   entries_alike t s [] [] [] same = (refl, refl)
   entries_alike t s (a ∷ xs) [] [] same = (refl, refl)
-  entries_alike t s [] (b ∷ ys) (c ∷ zs) same = (refl, refl)
+  entries_alike t s [] (b ∷ ys) (c ∷ zs) same =
+      let first = entry_alike t s None b c same.0 in let later = entries_alike t (s + 1) [] ys zs same.1 in
+      (all_alike _ _ _ _ first.0 later.0, refl)
   entries_alike t s (a ∷ xs) (b ∷ ys) (c ∷ zs) same =
       let first = entry_alike t s a b c same.0 in let later = entries_alike t (s + 1) xs ys zs same.1 in (
         all_alike _ _ _ _ first.0 later.0,

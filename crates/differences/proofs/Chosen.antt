@@ -1,9 +1,10 @@
 -- The sections in which some track has content.
 use Rattle.std.proofs.Common.{◌≡◌, ℕ, zero, suc, ◌+◌, ◌-◌, ◌<◌, ◌≤◌, Bool, true, false, List, [], ◌∷◌, ◌++◌, cond, filter, length, map}
-use Rattle.std.proofs.Common.{Option, None, Some}
+use Rattle.std.proofs.lemmas.List.Elements.{All-cons, All-nil}
+use Rattle.std.proofs.Common.{All, Option, None, Some}
 use Rattle.std.proofs.lemmas.Bool.Decides.{nat_tests}
 use Rattle.std.proofs.Common.{append_assoc, refl, sym, ◌∙◌, ap, arith}
-use Rattle.std.specs.{Prelude.{◌||◌, is_some, nat_lt, option_and_then, slice_index}, List.range_with_len, Option.option_map_or}
+use Rattle.std.specs.{Prelude.{◌||◌, is_some, nat_lt, option_and_then}, List.range_with_len, Option.option_map_or}
 use Rattle.meaning.specs.Meanings.{Entry}
 use Rattle.url_parts.specs.declared.address.Part.{Part}
 use Rattle.timeline.specs.Expansions.{SegmentTimeline, Timing}
@@ -14,17 +15,14 @@ use Rattle.differences.specs.Sections.{has_content, kept_sections}
 -- ---- numbers of a range that pass a test
 
 module _ (test : ℕ → Bool) where
-  below_if : (chosen : Bool) (x n k : ℕ) (xs : List ℕ) → x < n → ((j : ℕ) → j < length xs → slice_index xs j < n)
-      → k < length (cond chosen (x ∷ xs) xs) → slice_index (cond chosen (x ∷ xs) xs) k < n
-  below_if true x n zero xs first later within = first
-  below_if true x n (suc k) xs first later within = later k (omega (arith, within))
-  below_if false x n k xs first later within = later k within
+  below_if : (chosen : Bool) (x n : ℕ) (xs : List ℕ) → x < n → All (λ y. y < n) xs → All (λ y. y < n) (cond chosen (x ∷ xs) xs)
+  below_if true x n xs first later = All-cons (λ y. y < n) x xs first later
+  below_if false x n xs first later = later
 
-  below : (first m n : ℕ) → first + m ≤ n → (k : ℕ) → k < length (filter test (range_with_len first m))
-      → slice_index (filter test (range_with_len first m)) k < n
-  below first zero n fits k within = absurd (omega (arith, within))
-  below first (suc m) n fits k within = below_if (test first) first n k (filter test (range_with_len (first + 1) m)) (omega (arith, fits))
-      (below (first + 1) m n (omega (arith, fits))) within
+  below : (first m n : ℕ) → first + m ≤ n → All (λ y. y < n) (filter test (range_with_len first m))
+  below first zero n fits = All-nil (λ y. y < n)
+  below first (suc m) n fits = below_if (test first) first n (filter test (range_with_len (first + 1) m)) (omega (arith, fits))
+      (below (first + 1) m n (omega (arith, fits)))
 
   -- the numbers before i are chosen, and i is tried
   module _ (i n : ℕ) (within : i < n) (chosen whole : List ℕ)
@@ -40,8 +38,8 @@ module _ (test : ℕ → Bool) where
     pub with_next : whole ≡ cond (test i) (chosen ++ i ∷ []) chosen ++ filter test (range_with_len (i + 1) (n - (i + 1)))
     with_next = tried ∙ by_test (test i) (filter test (range_with_len (i + 1) (n - (i + 1))))
 
-pub within_sections : (p : Presented) (k : ℕ) → k < length (kept_sections p) → slice_index (kept_sections p) k < length p.sections
-within_sections p k within = below (has_content p) 0 (length p.sections) (length p.sections) (omega arith) k within
+pub within_sections : (p : Presented) → All (λ s. s < length p.sections) (kept_sections p)
+within_sections p = below (has_content p) 0 (length p.sections) (length p.sections) (omega arith)
 
 -- ---- a track has content exactly where it lists a segment
 

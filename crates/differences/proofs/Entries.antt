@@ -7,12 +7,13 @@ use Rattle.std.specs.Option.{option_eq}
 use Rattle.exact_time.specs.{declared.tick.Tick.Tick, Tick.time_of, Time.{Time}}
 use Rattle.url_parts.specs.declared.address.Part.{Part}
 use Rattle.meaning.specs.{Differences.{in_entry, is_same_part, is_same_range}, Meanings.{Segment}}
-use Rattle.differences.specs.declared.{collected.Collected.Collected, deviation.Deviation.Deviation, segments.Begins.Begins, spot.Spot.Spot}
+use Rattle.differences.specs.declared.{collected.Collected.Collected, deviation.Deviation.Deviation, segments.Begins.Begins}
 use Rattle.differences.specs.declared.times.Tolerance.{Tolerance}
 use Rattle.differences.specs.Collecting.{added, all_added, noted}
 use Rattle.differences.specs.Deviating.{deviation, end_apart, number_deviations, segment_deviations, segments_deviations}
 use Rattle.differences.specs.Deviating.{segments_greatest, unless}
-use Rattle.differences.specs.{Listing.entry_made, Segments.{behind, entry_noted, noted_from, segment_noted, time_noted}}
+use Rattle.comparison.specs.{Comparing.{behind, entry_made}, declared.spot.Spot.Spot}
+use Rattle.differences.specs.Segments.{entry_noted, noted_from, segment_noted, time_noted}
 use Rattle.differences.proofs.Collecting.{noted_after, noted_more, noted_none}
 
 pub spot_is : (x : Spot) (s t k : ℕ) → x.section ≡ s → x.track ≡ t → x.segment ≡ k → x ≡ record { section = s; track = t; segment = k }

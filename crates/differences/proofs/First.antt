@@ -3,7 +3,8 @@ use Rattle.meaning.specs.declared.difference.Aspect.TheVariants as aspect
 use Rattle.meaning.specs.Differences as meant
 use Rattle.std.proofs.Common.{◌≡◌, ℕ, ◌+◌, ◌*◌, ◌/◌, ◌%◌, ◌≤◌, ◌==◌, ◌||◌, Bool, true, false, ◌-ℤ◌, List, [], ◌∷◌, ◌++◌, length, Option}
 use Rattle.std.proofs.Common.{None, Some}
-use Rattle.std.proofs.{Common.{option_map, refl, sym, ◌∙◌, ap, arith}}
+use Rattle.std.proofs.{Common.{option_map, refl, subst, sym, ◌∙◌, ap, arith}}
+use Rattle.std.proofs.lemmas.List.Elements.{All-head, All-tail}
 use Rattle.std.proofs.{lemmas.{Bool.Decides.{Decides-int_eq, nat_tests}, Bool.eqb-true, Int.ints}}
 use Rattle.std.proofs.Math.Nat.{mod-add-div}
 use Rattle.std.specs.{Int.div_ceil, Option.option_or, Prelude.{nat_le, unsigned_abs}}
@@ -12,7 +13,7 @@ use Rattle.bridge_io.specs.Firsts.{first_of}
 use Rattle.meaning.specs.{declared.difference.Aspect.Aspect, declared.difference.Difference.Difference}
 use Rattle.meaning.specs.{Meanings.{Segment, Entry, Meaning, Track}}
 use Rattle.meaning.specs.{Same.{begin_of}, Differences.{first_difference, in_all, in_entry, is_same_or_rounded, is_same_time}}
-use Rattle.differences.specs.{Agreeing.first_deviation, Sizes.{is_alike, is_near, size_of}, declared.deviation.Deviation.Deviation}
+use Rattle.differences.specs.{Agreeing.{HasSections, HaveEntries, IsEntries, first_deviation}, Sizes.{is_alike, is_near, size_of}, declared.deviation.Deviation.Deviation}
 use Rattle.differences.specs.Deviating.{deviations, entries_deviations, entry_deviations, heads_deviations}
 use Rattle.differences.specs.Deviating.{segment_deviations, segments_deviations, tracks_deviations, unless}
 
@@ -85,15 +86,15 @@ module _ (unit : ℕ) where
     first_segments t s 0 (begin_of a.segments) (begin_of b.segments) a.segments b.segments,
   ) refl
 
-  first_entries : (t s : ℕ) (xs ys : List (Option Entry))
+  first_entries : (t s : ℕ) (xs ys : List (Option Entry)) → length xs ≡ length ys
       → first_at (entries_deviations 0 unit t s xs ys) ≡ meant.entries_difference unit t s xs ys
-  first_entries t s [] [] = refl
-  first_entries t s (a ∷ xs) (b ∷ ys) =
+  first_entries t s [] [] same = refl
+  first_entries t s (a ∷ xs) (b ∷ ys) same =
       first_of_both (entry_deviations 0 unit t s a b) _
       ∙ ap (λ o. option_or o (first_at (entries_deviations 0 unit t (s + 1) xs ys))) (first_entry t s a b)
-      ∙ ap (option_or (meant.entry_difference unit t s a b)) (first_entries t (s + 1) xs ys)
-  first_entries t s [] (b ∷ ys) = refl
-  first_entries t s (a ∷ xs) [] = refl
+      ∙ ap (option_or (meant.entry_difference unit t s a b)) (first_entries t (s + 1) xs ys (omega (arith, same)))
+  first_entries t s [] (b ∷ ys) same = absurd (omega (arith, same))
+  first_entries t s (a ∷ xs) [] same = absurd (omega (arith, same))
 
   first_head : (t : ℕ) (xs ys : List Track) → length xs ≡ length ys → first_at (heads_deviations t xs ys) ≡ meant.heads_difference t xs ys
   first_head t [] [] same = refl
@@ -101,27 +102,32 @@ module _ (unit : ℕ) where
   first_head t [] (b ∷ ys) same = absurd (omega (arith, same))
   first_head t (a ∷ xs) (b ∷ ys) same = rw (first_of_both, first_unless, first_head (t + 1) xs ys (omega (arith, same))) refl
 
-  first_track : (t : ℕ) (xs ys : List Track) → first_at (tracks_deviations 0 unit t xs ys) ≡ meant.tracks_difference unit t xs ys
-  first_track t [] ys = refl
-  first_track t (a ∷ xs) [] = refl
-  first_track t (a ∷ xs) (b ∷ ys) =
+  first_track : (n t : ℕ) (xs ys : List Track) → HaveEntries n xs → HaveEntries n ys
+      → first_at (tracks_deviations 0 unit t xs ys) ≡ meant.tracks_difference unit t xs ys
+  first_track n t [] ys mine theirs = refl
+  first_track n t (a ∷ xs) [] mine theirs = refl
+  first_track n t (a ∷ xs) (b ∷ ys) mine theirs =
       first_of_both (entries_deviations 0 unit t 0 a.entries b.entries) _
-      ∙ ap (λ o. option_or o (first_at (tracks_deviations 0 unit (t + 1) xs ys))) (first_entries t 0 a.entries b.entries)
-      ∙ ap (option_or (meant.entries_difference unit t 0 a.entries b.entries)) (first_track (t + 1) xs ys)
+      ∙ ap (λ o. option_or o (first_at (tracks_deviations 0 unit (t + 1) xs ys)))
+      (first_entries t 0 a.entries b.entries (All-head (IsEntries n) a xs mine ∙ sym (All-head (IsEntries n) b ys theirs)))
+      ∙ ap (option_or (meant.entries_difference unit t 0 a.entries b.entries))
+      (first_track n (t + 1) xs ys (All-tail (IsEntries n) a xs mine) (All-tail (IsEntries n) b ys theirs))
 
--- what comes later rests on the numbers of tracks being the same
-by_tracks : (same : Bool) (found : Difference) (x y : Option Difference) → (same ≡ true → x ≡ y)
+-- what comes later rests on two numbers being the same
+by_numbers : (same : Bool) (found : Difference) (x y : Option Difference) → (same ≡ true → x ≡ y)
     → option_or (meant.unless same found) x ≡ option_or (meant.unless same found) y
-by_tracks true found x y h = h refl
-by_tracks false found x y h = refl
+by_numbers true found x y h = h refl
+by_numbers false found x y h = refl
 
-pub first_is : (unit : ℕ) (a b : Meaning) → first_deviation 0 unit a b ≡ first_difference unit a b
+pub first_is : (unit : ℕ) (a b : Meaning) → HasSections a → HasSections b → first_deviation 0 unit a b ≡ first_difference unit a b
 unfolding deviations first_difference
-first_is unit a b =
+first_is unit a b mine theirs =
     let heads = heads_deviations 0 a.tracks b.tracks in let tracks = tracks_deviations 0 unit 0 a.tracks b.tracks in
     rw (first_of_both, first_of_both, first_unless, first_unless)
-    (ap (option_or (meant.unless (a.sections == b.sections) (in_all aspect.Sections)))
-    (by_tracks (length a.tracks == length b.tracks) (in_all aspect.Tracks) (first_at (heads ++ tracks)) _ (λ same.
+    (by_numbers (a.sections == b.sections) (in_all aspect.Sections) _ _ (λ sections.
+    by_numbers (length a.tracks == length b.tracks) (in_all aspect.Tracks) (first_at (heads ++ tracks)) _ (λ same.
+    let n : a.sections ≡ b.sections = eqb-true a.sections b.sections sections in
     first_of_both heads tracks
     ∙ ap (λ o. option_or o (first_at tracks)) (first_head unit 0 a.tracks b.tracks (eqb-true (length a.tracks) (length b.tracks) same))
-    ∙ ap (option_or (meant.heads_difference 0 a.tracks b.tracks)) (first_track unit 0 a.tracks b.tracks))))
+    ∙ ap (option_or (meant.heads_difference 0 a.tracks b.tracks))
+    (first_track unit b.sections 0 a.tracks b.tracks (subst (λ n. HaveEntries n a.tracks) n mine) theirs))))

@@ -1,6 +1,4 @@
-mod Ratios
 mod Nearness
-mod Walks
 mod Chosen
 mod Collecting
 mod Entries

@@ -3,12 +3,13 @@ use Rattle.meaning.specs.declared.difference.Aspect.TheVariants as aspect
 use Rattle.differences.specs.declared.deviation.How.TheVariants as how
 use Rattle.std.proofs.Common.{◌≡◌, ℕ, zero, suc, ◌+◌, ◌<◌, Bool, true, false, List, [], ◌∷◌, ◌++◌, cond, length, map, filter, min, Option}
 use Rattle.std.proofs.Common.{Some}
-use Rattle.std.proofs.{Common.{refl, ◌∙◌, ap, arith, zero-add}, lemmas.List.length-map}
+use Rattle.std.proofs.{Common.{refl, subst, sym, ◌∙◌, ap, arith, zero-add}, lemmas.List.{Elements.{All-cons, All-nil}, length-map}}
 use Rattle.std.specs.Prelude.{option_and_then}
 use Rattle.meaning.specs.{Differences.in_all, Meanings.{Entry, Meaning}}
 use Rattle.presentation.specs.{declared.track.Track.Track, Counting.sections_of, Presented.Presented}
 use Rattle.presentation.specs.Meanings.{Head, entry_at, entry_in, head_of, is_kept, meaning_of, meaning_over, row_at, tracks_from}
 use Rattle.presentation.proofs.Allowed.{each_at}
+use Rattle.differences.specs.Agreeing.{HasSections, HaveEntries, IsEntries}
 use Rattle.differences.specs.Deviating.{deviation, deviations, heads_deviations, number_deviations}
 use Rattle.differences.specs.Deviating.{tracks_deviations, tracks_greatest}
 use Rattle.differences.specs.{Heads.{at_track, head_beside, heads_from}, Sections.{contents_from, greatest_from}}
@@ -47,6 +48,16 @@ as_kept p = ap (meaning_over (map head_of p.tracks)) (filter-map is_kept (row_at
 as_many_tracks : (t : ℕ) (rows : List (List (Option Entry))) (xs : List Head) → length (tracks_from t rows xs) ≡ length xs
 as_many_tracks t rows [] = refl
 as_many_tracks t rows (x ∷ xs) = ap suc (as_many_tracks (t + 1) rows xs)
+
+-- ---- each track has an entry for each section
+
+entries_over : (t : ℕ) (rows : List (List (Option Entry))) (xs : List Head) → HaveEntries (length rows) (tracks_from t rows xs)
+entries_over t rows [] = All-nil (IsEntries (length rows))
+entries_over t rows (x ∷ xs) = All-cons (IsEntries (length rows)) _ (tracks_from (t + 1) rows xs) (length-map rows (entry_in t))
+    (entries_over (t + 1) rows xs)
+
+pub have_sections : (p : Presented) → HasSections (meaning_of p)
+have_sections p = subst HasSections (sym (as_kept p)) (entries_over 0 (rows_kept p) (map head_of p.tracks))
 
 -- ---- what differs
 

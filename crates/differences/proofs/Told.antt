@@ -8,10 +8,11 @@ use Rattle.differences.specs.declared.{collected.Collected.Collected, contents.B
 use Rattle.differences.specs.Collecting.{all_added, none_yet}
 use Rattle.differences.specs.Contents.{contents_noted, greatest_of, heads_noted, tracks_of_both}
 use Rattle.differences.specs.Deviating.{deviations, number_deviations, told}
-use Rattle.differences.specs.{Heads.heads_from, Listing.IsSideOf}
+use Rattle.comparison.proofs.Walks.{own_addresses}
+use Rattle.differences.specs.{Heads.heads_from, Sides.IsSideOf}
 use Rattle.differences.specs.{Sections.{AreComparable, IsListable, contents_from, greatest_from, kept_sections}}
 use Rattle.differences.proofs.{Collecting.{all_added_more, all_counted, first_kept, same_greatest}}
-use Rattle.differences.proofs.{Opened.{greatest_opened, of_both, opened}, Walks.own_addresses}
+use Rattle.differences.proofs.Opened.{greatest_opened, of_both, opened}
 
 module _ (unit : ℕ) (a b : Presented) (both : AreComparable unit a b) where
   pub mpd_listable : IsListable unit a

@@ -7,7 +7,7 @@ use Rattle.differences.specs.declared.{collected.Collected.Collected, contents.B
 use Rattle.differences.specs.Collecting.{all_added, noted}
 use Rattle.differences.specs.Deviating.{entries_deviations, entries_greatest, entry_deviations, entry_greatest, number_deviations}
 use Rattle.differences.specs.Heads.{heads_from}
-use Rattle.differences.specs.{Listing.{IsSide, entry_of}, Sections.{contents_from, greatest_from}}
+use Rattle.differences.specs.{Sections.{contents_from, greatest_from}, Sides.{IsSide, entry_of}}
 
 pub record AreSides (both : Both) : Type 0 where
   pub mpd : IsSide both.mpd
@@ -35,7 +35,7 @@ module _ (both : Both) where
       (entry_deviations both.tolerance.within unit_of t place (entry_of both.mpd place t) (entry_of both.playlists place t))
       (entry_greatest (entry_of both.mpd place t) (entry_of both.playlists place t))
 
-  -- from the section at an index on
+  -- from the section at an index on, also after the last one
   abbrev pub track_noted : (t place : ℕ) → Collected → Collected
   track_noted t place c = noted c (entries_deviations both.tolerance.within unit_of t place
       (drop place (entries_in both.mpd t)) (drop place (entries_in both.playlists t)))

@@ -76,8 +76,10 @@ abbrev pub entries_deviations : (within unit : ℕ) → (t s : ℕ) → (xs ys :
 entries_deviations within unit t s [] [] = []
 entries_deviations within unit t s (a ∷ xs) (b ∷ ys) =
     entry_deviations within unit t s a b ++ entries_deviations within unit t (s + 1) xs ys
-entries_deviations within unit t s (a ∷ xs) [] = deviation (in_entry t s 0 aspect.Initialization) how.Missing ∷ []
-entries_deviations within unit t s [] (b ∷ ys) = deviation (in_entry t s 0 aspect.Initialization) how.Extra ∷ []
+entries_deviations within unit t s (a ∷ xs) [] =
+    entry_deviations within unit t s a None ++ entries_deviations within unit t (s + 1) xs []
+entries_deviations within unit t s [] (b ∷ ys) =
+    entry_deviations within unit t s None b ++ entries_deviations within unit t (s + 1) [] ys
 
 abbrev pub entries_greatest : (xs ys : List (Option Entry)) → ℕ
 entries_greatest [] ys = 0

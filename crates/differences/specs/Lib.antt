@@ -1,10 +1,9 @@
 pub mod Sizes
 pub mod Rounded
-pub mod Elapsed
 pub mod Deviating
 pub mod Collecting
 pub mod Heads
-pub mod Listing
+pub mod Sides
 pub mod Pairs
 pub mod Segments
 pub mod Sections

@@ -4,7 +4,8 @@ use Rattle.exact_time.specs.Time.{before}
 use Rattle.presentation.specs.Counting.{capped}
 use Rattle.differences.specs.{declared.apart.Gap.Gap, declared.deviation.Apart.Apart, declared.times.Times.Times}
 use Rattle.differences.specs.{declared.times.Tolerance.Tolerance}
-use Rattle.differences.specs.{Elapsed.stretch_of, Sizes.{is_alike, size_of}}
+use Rattle.comparison.specs.Elapsed.{stretch_of}
+use Rattle.differences.specs.Sizes.{is_alike, size_of}
 
 abbrev pub gap_of : Times → Gap
 gap_of times = record {

@@ -1,9 +1,10 @@
 -- What differs of the segments of a track in a section, added to what was found before.
 use Rattle.meaning.specs.declared.difference.Aspect.TheVariants as aspect
-use Rattle.std.specs.Prelude.{◌+◌, ◌^◌, List, Option}
+use Rattle.std.specs.Prelude.{◌^◌, List, Option}
 use Rattle.exact_time.specs.{declared.tick.Tick.Tick, Tick.time_of, Time.difference}
 use Rattle.meaning.specs.{Differences.in_entry, Meanings.{Entry, Segment}}
-use Rattle.differences.specs.declared.{collected.Collected.Collected, segments.Begins.Begins, spot.Spot.Spot}
+use Rattle.comparison.specs.declared.spot.Spot.{Spot}
+use Rattle.differences.specs.declared.{collected.Collected.Collected, segments.Begins.Begins}
 use Rattle.differences.specs.declared.{times.Times.Times, times.Tolerance.Tolerance}
 use Rattle.differences.specs.Collecting.{noted}
 use Rattle.differences.specs.Deviating.{deviation, end_apart, entry_deviations, entry_greatest, segment_deviations, segments_deviations}
@@ -14,9 +15,6 @@ times_since begins mine theirs = record {
   mine = record { begin = begins.mine; end = mine };
   theirs = record { begin = begins.theirs; end = theirs };
 }
-
-abbrev pub behind : Spot → Spot
-behind at = record at { segment = at.segment + 1 }
 
 module _ (begins : Begins) (at : Spot) (c : Collected) where
   abbrev pub time_noted : (a b : Segment) → Collected

@@ -1,12 +1,12 @@
 // How far two times are apart.
 ghost use Rattle.std.specs.Prelude.{◌≡◌, ◌*◌, pos, ◌+ℤ◌, ◌*ℤ◌};
 ghost use Rattle.exact_time.specs.Time.{before};
-ghost use Rattle.differences.specs.Elapsed.{time_since};
+ghost use Rattle.comparison.specs.Elapsed.{time_since};
 ghost use Rattle.differences.specs.Sizes.{size_of};
 ghost use Rattle.differences.specs.Rounded as spec;
 
-use crate::elapsed::Elapsed;
 use crate::rounded::Rounded;
+use comparison::Elapsed;
 
 /// How far two times are apart.
 #[derive(Clone, Copy)]
@@ -17,23 +17,21 @@ pub(crate) struct Gap {
     pub(crate) size: u128,
 }
 
-impl Elapsed {
-    /// Its nanoseconds.
-    fn rounded(self) -> Rounded
-        ensures value { self.ticks *ℤ pos 1000000000 ≡ result.whole *ℤ pos result.scale +ℤ pos result.rest }
-        ensures scale { result.scale ≡ self.scale }
+impl Rounded {
+    /// The nanoseconds of a time.
+    fn of(time: Elapsed) -> Rounded
+        ensures value { time.ticks *ℤ pos 1000000000 ≡ result.whole *ℤ pos result.scale +ℤ pos result.rest }
+        ensures scale { result.scale ≡ time.scale }
     {
-        let nanoseconds = self.ticks * 1_000_000_000;
-        let scale = i128::from(self.scale);
+        let nanoseconds = time.ticks * 1_000_000_000;
+        let scale = i128::from(time.scale);
         Rounded {
             whole: nanoseconds.div_euclid(scale),
             rest: nanoseconds.rem_euclid(scale) as u64,
-            scale: self.scale,
+            scale: time.scale,
         }
     }
-}
 
-impl Rounded {
     /// What is left, over the common scale of both.
     fn rest_over(self, other: Rounded) -> u128
         ensures { result ≡ self.rest * other.scale }
@@ -64,7 +62,7 @@ pub(crate) fn gap_between(mine: Elapsed, theirs: Elapsed) -> Gap
     ensures later { result.later ≡ before (time_since mine) (time_since theirs) }
     ensures size { result.size ≡ size_of (time_since mine) (time_since theirs) }
 {
-    let (mine, theirs) = (mine.rounded(), theirs.rounded());
+    let (mine, theirs) = (Rounded::of(mine), Rounded::of(theirs));
     let later = mine.is_before(theirs);
     let size = if later {
         mine.until(theirs)

@@ -1,16 +1,21 @@
 // The contents of the tracks in the sections.
-ghost use Rattle.std.specs.Prelude.{◌≡◌, ◌<◌, length, IfOk, OnOk};
-ghost use Rattle.meaning.specs.Differences.{in_all};
+ghost use Rattle.meaning.specs.declared.difference.Aspect.TheVariants as aspect;
+ghost use Rattle.std.specs.Prelude.{◌≡◌, ◌<◌, ◌==◌, length, IfOk, OnOk};
+ghost use Rattle.meaning.specs.Differences.{in_all, in_entry};
+ghost use Rattle.presentation.specs.Meanings.{entry_at};
+ghost use Rattle.differences.specs.Collecting.{all_added};
 ghost use Rattle.differences.specs.Contents as spec;
+ghost use Rattle.differences.specs.Deviating.{deviation, unless};
+ghost use Rattle.differences.specs.Segments.{entry_noted};
 
-use crate::How;
 use crate::collected::Collected;
 use crate::heads::add_heads;
 use crate::segments::{Listed, add_entry};
 use crate::side::Side;
-use crate::spot::Spot;
 use crate::times::Tolerance;
+use crate::{Deviation, How};
 use bridge_io::{Ledger, NoMemory, Sequence, Steps};
+use comparison::Spot;
 use meaning::{Aspect, Difference};
 use std::alloc::Global;
 
@@ -72,26 +77,14 @@ impl Both<'_> {
         requires theirs { track < length self.now.playlists.presentation.now.tracks }
         ensures { OnOk result (found.new ≡ spec.track_noted self.now track 0 found.old) }
     {
-        let mine = self.mpd.sections.len();
-        let theirs = self.playlists.sections.len();
-        for place in 0..mine.min(theirs) {
+        let sections = self.mpd.sections.len().max(self.playlists.sections.len());
+        for place in 0..sections {
             self.add_section(alloc, place, track, found, steps)?;
-        }
-        let end = Spot {
-            section: mine.min(theirs),
-            track,
-            segment: 0,
-        };
-        if mine < theirs {
-            return found.add(end.how(Aspect::Initialization, How::Extra));
-        }
-        if theirs < mine {
-            return found.add(end.how(Aspect::Initialization, How::Missing));
         }
         Ok(())
     }
 
-    /// Adds what differs of a track in a section.
+    /// Adds what differs of a track in a section, which one of them may not have.
     fn add_section<L: Ledger>(
         &self,
         alloc: Global,
@@ -101,10 +94,8 @@ impl Both<'_> {
         steps: &mut Steps<L>,
     ) -> Result<(), NoMemory>
         requires sides { spec.AreSides self.now }
-        requires my_place { place < length self.now.mpd.sections }
-        requires my_track { track < length self.now.mpd.presentation.now.tracks }
-        requires their_place { place < length self.now.playlists.sections }
-        requires their_track { track < length self.now.playlists.presentation.now.tracks }
+        requires mine { track < length self.now.mpd.presentation.now.tracks }
+        requires theirs { track < length self.now.playlists.presentation.now.tracks }
         ensures { OnOk result (found.new ≡ spec.section_noted self.now track place found.old) }
     {
         let spot = Spot {
@@ -112,14 +103,44 @@ impl Both<'_> {
             track,
             segment: 0,
         };
-        let mine = self.mpd.section(place);
-        let theirs = self.playlists.section(place);
+        match (self.mpd.section(place), self.playlists.section(place)) {
+            (Some(mine), Some(theirs)) => self.add_both(alloc, spot, mine, theirs, found, steps),
+            (Some(mine), None) => add_only(spot, self.mpd.listed(mine, track), How::Missing, found),
+            (None, Some(theirs)) => add_only(
+                spot,
+                self.playlists.listed(theirs, track),
+                How::Extra,
+                found,
+            ),
+            (None, None) => Ok(()),
+        }
+    }
+
+    /// Adds what differs of a track in a section of each.
+    fn add_both<L: Ledger>(
+        &self,
+        alloc: Global,
+        spot: Spot,
+        mine: usize,
+        theirs: usize,
+        found: &mut Collected,
+        steps: &mut Steps<L>,
+    ) -> Result<(), NoMemory>
+        requires sides { spec.AreSides self.now }
+        requires first { spot.segment ≡ 0 }
+        requires mine { mine < length self.now.mpd.presentation.now.sections }
+        requires my_track { spot.track < length self.now.mpd.presentation.now.tracks }
+        requires theirs { theirs < length self.now.playlists.presentation.now.sections }
+        requires their_track { spot.track < length self.now.playlists.presentation.now.tracks }
+        ensures { OnOk result (found.new ≡ entry_noted self.now.tolerance spot found.old
+            (entry_at self.now.mpd.presentation.now mine spot.track) (entry_at self.now.playlists.presentation.now theirs spot.track)) }
+    {
         let listed = Listed {
-            mine: self.mpd.listed(mine, track),
-            theirs: self.playlists.listed(theirs, track),
+            mine: self.mpd.listed(mine, spot.track),
+            theirs: self.playlists.listed(theirs, spot.track),
         };
-        let mine = self.mpd.entry(mine, track);
-        let theirs = self.playlists.entry(theirs, track);
+        let mine = self.mpd.entry(mine, spot.track);
+        let theirs = self.playlists.entry(theirs, spot.track);
         add_entry(
             alloc,
             spot,
@@ -131,6 +152,15 @@ impl Both<'_> {
             steps,
         )
     }
+}
+
+/// Adds that only one of them has content in a section, where it lists segments there.
+fn add_only(spot: Spot, listed: usize, how: How, found: &mut Collected) -> Result<(), NoMemory>
+    ensures { OnOk result (found.new ≡ all_added found.old (unless (listed == 0)
+        (deviation (in_entry spot.track spot.section spot.segment aspect.Initialization) how))) }
+{
+    let only = Deviation::found_at(spot, Aspect::Initialization, how);
+    found.add_unless(listed == 0, only)
 }
 
 /// A difference of the whole.

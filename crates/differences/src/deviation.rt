@@ -1,6 +1,11 @@
 // What differs, where, and how.
+ghost use Rattle.std.specs.Prelude.{◌≡◌};
+ghost use Rattle.meaning.specs.Differences.{in_entry};
+ghost use Rattle.differences.specs.Deviating.{deviation};
+
 use bridge_io::Sequence;
-use meaning::Difference;
+use comparison::Spot;
+use meaning::{Aspect, Difference};
 
 /// A difference of two presentations.
 #[derive(Clone, Copy, PartialEq, Eq)]
@@ -9,6 +14,18 @@ pub struct Deviation {
     pub at: Difference,
     /// How it differs.
     pub how: How,
+}
+
+impl Deviation {
+    /// What differs at a spot, and how.
+    pub(crate) fn found_at(spot: Spot, what: Aspect, how: How) -> Deviation
+        ensures { result ≡ deviation (in_entry spot.track spot.section spot.segment what) how }
+    {
+        Deviation {
+            at: spot.of(what),
+            how,
+        }
+    }
 }
 
 /// How something differs.

@@ -1,15 +1,13 @@
 // The kinds and languages of the tracks.
-ghost use Rattle.std.specs.Prelude.{◌≡◌, ◌==◌, bytes_eq, option_map, OnOk};
-ghost use Rattle.std.specs.Option.{option_eq};
-ghost use Rattle.meaning.specs.Differences.{is_same_kind};
-ghost use Rattle.presentation.specs.Meanings.{language_of};
+ghost use Rattle.std.specs.Prelude.{◌≡◌, option_map, OnOk};
 ghost use Rattle.differences.specs.Collecting.{all_added};
 ghost use Rattle.differences.specs.Deviating.{deviation};
 ghost use Rattle.differences.specs.Heads as spec;
 
 use crate::collected::Collected;
 use crate::{Deviation, How};
-use bridge_io::{Kind, NoMemory};
+use bridge_io::NoMemory;
+use comparison::{is_same_kind, is_same_language, language_of};
 use meaning::{Aspect, Difference};
 use presentation::Track;
 
@@ -63,34 +61,4 @@ fn of_track(track: usize, how: How) -> Deviation
         segment: 0,
     };
     Deviation { at, how }
-}
-
-fn is_same_kind(mine: Kind, theirs: Kind) -> bool
-    ensures { result ≡ is_same_kind mine theirs }
-{
-    matches!(
-        (mine, theirs),
-        (Kind::Video, Kind::Video) | (Kind::Audio, Kind::Audio) | (Kind::Text, Kind::Text)
-    )
-}
-
-/// The language, which a video track doesn't have.
-fn language_of(track: &Track) -> Option<&str>
-    ensures { option_map (λ language. language.now) result ≡ language_of track.now.kind track.now.language }
-{
-    match (track.kind, &track.language) {
-        (Kind::Audio | Kind::Text, Some(language)) => Some(language.as_str()),
-        _ => None,
-    }
-}
-
-fn is_same_language(mine: Option<&str>, theirs: Option<&str>) -> bool
-    ensures { result ≡ option_eq bytes_eq (option_map (λ language. language.now) mine.entry)
-        (option_map (λ language. language.now) theirs.entry) }
-{
-    match (mine, theirs) {
-        (Some(mine), Some(theirs)) => mine == theirs,
-        (None, None) => true,
-        _ => false,
-    }
 }

@@ -8,18 +8,17 @@ mod apart;
 mod collected;
 mod contents;
 mod deviation;
-mod elapsed;
 mod heads;
 mod laws;
 mod presentations;
 mod rounded;
 mod segments;
 mod side;
-mod spot;
-mod stretch;
 mod times;
-mod walk;
 
 pub use deviation::{Apart, Deviation, Deviations, How};
-pub use laws::{none_where_they_agree, the_first_is_the_first_difference, the_same_deviate_alike};
+pub use laws::{
+    none_where_they_agree, presentations_have_sections, the_first_is_the_first_difference,
+    the_same_deviate_alike,
+};
 pub use presentations::differences;

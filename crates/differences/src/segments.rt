@@ -2,16 +2,14 @@
 ghost use Rattle.std.specs.Prelude.{◌≡◌, ◌+◌, ◌<◌, length, OnOk};
 ghost use Rattle.meaning.specs.Differences.{is_same_part, is_same_range};
 ghost use Rattle.std.specs.Option.{option_eq};
-ghost use Rattle.differences.specs.Listing.{entry_made, segment_made};
+ghost use Rattle.comparison.specs.Comparing.{behind, entry_made, segment_made};
 ghost use Rattle.differences.specs.Segments as spec;
 
-use crate::How;
 use crate::collected::Collected;
-use crate::spot::Spot;
-use crate::stretch::Stretch;
 use crate::times::{Times, Tolerance};
-use crate::walk::Walk;
+use crate::{Deviation, How};
 use bridge_io::{Ledger, NoMemory, Steps};
+use comparison::{Spot, Stretch, Walk};
 use exact_time::Tick;
 use meaning::Aspect;
 use std::alloc::Global;
@@ -54,9 +52,15 @@ impl Begins {
         ensures { OnOk result (found.new ≡ spec.segment_noted self.now at found.old (segment_made mine.now) (segment_made theirs.now)) }
     {
         let same_address = mine.address().as_str() == theirs.address().as_str();
-        found.add_unless(same_address, at.how(Aspect::Address, How::Value))?;
+        found.add_unless(
+            same_address,
+            Deviation::found_at(at, Aspect::Address, How::Value),
+        )?;
         let same_range = is_same_range(mine.range(), theirs.range());
-        found.add_unless(same_range, at.how(Aspect::Range, How::Value))?;
+        found.add_unless(
+            same_range,
+            Deviation::found_at(at, Aspect::Range, How::Value),
+        )?;
         self.add_time(at, mine, theirs, found)
     }
 
@@ -81,7 +85,7 @@ impl Begins {
             start: starts.gap().apart(),
             end: gap.apart(),
         };
-        found.add(at.how(Aspect::Time, how))
+        found.add(Deviation::found_at(at, Aspect::Time, how))
     }
 
     /// Makes the next segment of each, and adds what differs of them.
@@ -97,7 +101,7 @@ impl Begins {
         requires mine { 0 < length mine.old }
         requires theirs { 0 < length theirs.old }
         ensures found { OnOk result (spec.noted_from self.now at found.old mine.old theirs.old
-            ≡ spec.noted_from self.now (spec.behind at) found.new mine.new theirs.new) }
+            ≡ spec.noted_from self.now (behind at) found.new mine.new theirs.new) }
         ensures mine { OnOk result (length mine.old ≡ length mine.new + 1) }
         ensures theirs { OnOk result (length theirs.old ≡ length theirs.new + 1) }
     {
@@ -169,12 +173,23 @@ pub(crate) fn add_entry<L: Ledger>(
     let b = theirs.segments.next(alloc, steps)?;
     let (a, b) = match (a, b) {
         (None, None) => return Ok(()),
-        (Some(_), None) => return found.add(spot.how(Aspect::Initialization, How::Missing)),
-        (None, Some(_)) => return found.add(spot.how(Aspect::Initialization, How::Extra)),
+        (Some(_), None) => return found.add(Deviation::found_at(
+            spot,
+            Aspect::Initialization,
+            How::Missing,
+        )),
+        (None, Some(_)) => return found.add(Deviation::found_at(
+            spot,
+            Aspect::Initialization,
+            How::Extra,
+        )),
         (Some(a), Some(b)) => (a, b),
     };
     let same_part = is_same_part(mine.initialization, theirs.initialization);
-    found.add_unless(same_part, spot.how(Aspect::Initialization, How::Value))?;
+    found.add_unless(
+        same_part,
+        Deviation::found_at(spot, Aspect::Initialization, How::Value),
+    )?;
     let begins = Begins {
         mine: a.span().start,
         theirs: b.span().start,

@@ -1,14 +1,15 @@
 // One of the two presentations.
-ghost use Rattle.std.specs.Prelude.{◌≡◌, ◌<◌, ◌^◌, ◌++◌, ◌∷◌, [], if◌then◌else◌, length, slice_index, IfOk, OnOk};
+ghost use Rattle.std.specs.Prelude.{◌≡◌, ◌<◌, ◌==◌, ◌^◌, ◌++◌, ◌∷◌, [], if◌then◌else◌, length, slice_get, IfOk, IfSome, OnOk};
 ghost use Rattle.presentation.specs.Meanings.{entry_at};
 ghost use Rattle.presentation.specs.Presented.{listed_at};
 ghost use Rattle.presentation.specs.Printing.{IsCounted};
-ghost use Rattle.differences.specs.Listing as spec;
+ghost use Rattle.comparison.specs.Comparing.{entry_made};
+ghost use Rattle.differences.specs.Sides as spec;
 ghost use Rattle.differences.specs.Sections.{AreCounted, IsListable, has_content, kept_sections};
 
 use crate::segments::Entry;
-use crate::walk::Walk;
 use bridge_io::{NoMemory, Sequence};
+use comparison::Walk;
 use exact_time::Digits;
 use presentation::Presentation;
 use std::alloc::Global;
@@ -39,14 +40,14 @@ impl<'a> Side<'a> {
         })
     }
 
-    /// The section at an index of those that have content.
-    pub(crate) fn section(&self, place: usize) -> usize
+    /// The section at an index of those that have content; `None` after the last one.
+    pub(crate) fn section(&self, place: usize) -> Option<usize>
         requires side { spec.IsSide self.now }
-        requires place { place < length self.now.sections }
-        ensures section { result ≡ slice_index self.now.sections place }
-        ensures within { result < length self.now.presentation.now.sections }
+        ensures section { result ≡ slice_get self.now.sections place }
+        ensures within { IfSome result (λ section. section < length self.now.presentation.now.sections) }
     {
-        self.sections.as_slice()[place]
+        let section = self.sections.as_slice().get(place)?;
+        Some(*section)
     }
 
     /// The content of a track in a section.
@@ -54,7 +55,7 @@ impl<'a> Side<'a> {
         requires side { spec.IsSide self.now }
         requires section { section < length self.now.presentation.now.sections }
         requires track { track < length self.now.presentation.now.tracks }
-        ensures entry { spec.entry_made result.initialization.now result.segments ≡ entry_at self.now.presentation.now section track }
+        ensures entry { entry_made result.initialization.now result.segments ≡ entry_at self.now.presentation.now section track }
         ensures listed { length result.segments ≡ length (listed_at self.now.presentation.now section track) }
     {
         let presentation = self.presentation;

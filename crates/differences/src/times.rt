@@ -4,7 +4,7 @@ ghost use Rattle.differences.specs.Pairs as spec;
 
 use crate::Apart;
 use crate::apart::{Gap, gap_between};
-use crate::stretch::{Stretch, is_same_or_rounded};
+use comparison::{Stretch, is_same_or_rounded};
 use exact_time::Digits;
 
 /// How far the times of the playlists may be apart from those of the MPD.

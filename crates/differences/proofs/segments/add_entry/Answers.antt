@@ -2,7 +2,8 @@ use Rattle.std.proofs.Common.{◌≡◌, ◌∷◌, ◌∙◌, ap, rules, subst}
 use Rattle.std.specs.Result.{OnOk}
 use Rattle.differences.specs.declared.collected.Collected.{Collected}
 use Rattle.differences.specs.declared.segments.Begins.{Begins}
-use Rattle.differences.specs.{Collecting.all_added, Listing.segment_made, Segments.{noted_from, segment_noted}}
+use Rattle.comparison.specs.Comparing.{segment_made}
+use Rattle.differences.specs.{Collecting.all_added, Segments.{noted_from, segment_noted}}
 use Rattle.differences.proofs.Entries.{in_both, part, spot_is}
 use Rattle.differences.proofs.segments.add_entry.Goals as goal
 

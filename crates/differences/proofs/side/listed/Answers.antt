@@ -1,6 +1,6 @@
 use Rattle.std.proofs.Common.{ap, ◌∙◌}
 use Rattle.std.specs.Result.{result_unwrap_or}
-use Rattle.differences.proofs.Walks.{counted_at}
+use Rattle.comparison.proofs.Walks.{counted_at}
 use Rattle.differences.proofs.side.listed.Goals as goal
 
 pub returns : goal.returns

@@ -11,7 +11,7 @@ segments-requires-clause-reached c = counted_are_listed c.args.self.now.playlist
 pub over-requires : goal.over-requires
 over-requires c = let p = c.args.self.now.playlists.now in let unit = 10 ^ c.args.self.now.digits in
     addressed p c.args.section c.args.track unit c.segments.result c.initialization.result.now c.initialization.ensures c.segments.ensures
-    (own_addresses p c.args.section c.args.track unit c.segments.result c.requires.comparable.came.addressed)
+    (own_addresses p c.args.section c.args.track unit c.requires.comparable.came.addressed)
 
 pub returns-clause-entry : goal.returns-clause-entry
 returns-clause-entry c = ap (entry_made c.initialization.result.now) c.over.ensures

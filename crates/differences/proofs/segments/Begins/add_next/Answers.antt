@@ -1,5 +1,6 @@
 use Rattle.std.proofs.Common.{◌≡◌, ◌∷◌, ◌∙◌, ap, rules, sym}
-use Rattle.differences.specs.{Listing.segment_made, Segments.{behind, noted_from}}
+use Rattle.comparison.specs.Comparing.{behind, segment_made}
+use Rattle.differences.specs.Segments.{noted_from}
 use Rattle.differences.proofs.{Collecting.OnOk-wider, Entries.next_segment}
 use Rattle.differences.proofs.segments.Begins.add_next.Goals as goal
 

@@ -1,7 +1,8 @@
 use Rattle.std.proofs.Common.{◌≡◌, ◌∙◌, ap, rules, subst}
 use Rattle.std.specs.Result.{OnOk}
 use Rattle.differences.specs.declared.collected.Collected.{Collected}
-use Rattle.differences.specs.{Collecting.all_added, Listing.segment_made, Segments.time_noted}
+use Rattle.comparison.specs.Comparing.{segment_made}
+use Rattle.differences.specs.{Collecting.all_added, Segments.time_noted}
 use Rattle.differences.proofs.Entries.{address, range, segment_parts}
 use Rattle.differences.proofs.segments.Begins.add_segment.Goals as goal
 

@@ -1,6 +1,6 @@
 use Rattle.std.proofs.Common.{◌^◌, ap, ◌∙◌, length}
-use Rattle.differences.specs.Listing.{entry_made}
-use Rattle.differences.proofs.Walks.{addressed, as_many_left, entry_is}
+use Rattle.comparison.specs.Comparing.{entry_made}
+use Rattle.comparison.proofs.Walks.{addressed, as_many_left, entry_is}
 use Rattle.differences.proofs.side.Side.entry.Goals as goal
 
 pub segments-requires-clause-reached : goal.segments-requires-clause-reached
