@@ -2,7 +2,8 @@
 # publish.sh [<fault>..]: plays live playlists that `examples/follow.sh` and `examples/live-now.sh` publish while something fails, in ffmpeg
 # and in GStreamer's hlsdemux2, from nginx. ffmpeg is the packager: live DASH, 2 s a segment, 25 frames a second, each with its number drawn
 # into it. For each fault it tells which frames each player showed, as runs of numbers, GStreamer's waits above 0.5 s, and how many of the
-# published versions `bridge reload` calls lawful: all have to be. Then it times a publication of six tracks of 30 segments.
+# published versions `bridge reload` calls lawful: all have to be. Then it times a publication of six tracks of 30 segments, with the files
+# on the disk and in memory (/dev/shm).
 #
 # Faults: bridge, script, now, packager, names, end, outage; all of them, side by side, where none is named. BRIDGE and PUBLISH name the
 # programs; otherwise those of the last `rt ci`. It wants ffmpeg, nginx, curl, python3, and plays in GStreamer where it is installed. It
@@ -17,7 +18,7 @@ ln -s "$(realpath "${PUBLISH:-$here/crates/bridge_publish/out/bridge_publish}")"
 export PATH=$work/bin:/usr/sbin:$PATH
 
 cat > "$work/publish.py" <<'PY'
-import os, re, shutil, signal, socket, subprocess, sys, threading, time
+import os, re, shutil, signal, socket, subprocess, sys, tempfile, threading, time
 
 work, examples, *asked = sys.argv[1:]
 WIDTH, HEIGHT, RATE, BITS = 320, 180, 25, 12
@@ -240,9 +241,8 @@ def mpd(first):
     return ('<MPD xmlns="urn:mpeg:dash:schema:mpd:2011" type="dynamic" availabilityStartTime="2024-01-01T00:00:00Z" '
             f'timeShiftBufferDepth="PT60S"><Period id="p" start="PT0S">{sets}</Period></MPD>').encode()
 
-def timed():
+def timed(folder, where):
     """Milliseconds of publications of one more segment in each of six tracks of 30, from the process's start to its end."""
-    folder = f"{work}/timed"
     os.makedirs(folder)
     frames = b""
     for first, instant in ((0, "2024-01-01T00:01:00Z"), (1, "2024-01-01T00:01:02Z")):
@@ -264,7 +264,7 @@ def timed():
         subprocess.run(["true"], cwd=folder, capture_output=True)
         bare.append(1000 * (time.perf_counter() - began))
     middle = lambda values: sorted(values)[len(values) // 2]
-    print(f"| six tracks of 30 segments | {middle(took):.1f} ms, of which {middle(bare):.1f} start a process that does nothing |")
+    print(f"| six tracks of 30 segments, {where} | {middle(took):.1f} ms, of which {middle(bare):.1f} start a process that does nothing |")
 
 # ---- all
 
@@ -292,7 +292,9 @@ try:
             thread.join()
     for thread in threads:
         thread.join()
-    timed()
+    timed(f"{work}/timed", "on the disk")
+    with tempfile.TemporaryDirectory(dir="/dev/shm") as memory:
+        timed(f"{memory}/timed", "in memory")
 finally:
     for process in running:
         stop(process)
