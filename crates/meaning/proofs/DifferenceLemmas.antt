@@ -48,7 +48,7 @@ kind_at-rank Video = refl
 kind_at-rank Audio = refl
 kind_at-rank Text = refl
 
-Decides-kind : (a b : Kind) → Decides (is_same_kind a b) (a ≡ b)
+pub Decides-kind : (a b : Kind) → Decides (is_same_kind a b) (a ≡ b)
 Decides-kind a b = Decides-like (is_same_kind a b) (λ same. sym (kind_at-rank a) ∙ ap kind_at same
     ∙ kind_at-rank b) (λ e. ap rank_of e) (Decides-eqb (rank_of a) (rank_of b))
 
@@ -56,22 +56,22 @@ same_range : (a b : Range) → a.first ≡ b.first → a.count ≡ b.count → a
 same_range a b first count = subst (λ n. a ≡ record { first = n; count = b.count }) first
     (subst (λ n. a ≡ record { first = a.first; count = n }) count refl)
 
-Decides-range : (a b : Range) → Decides (is_same_range a b) (a ≡ b)
+pub Decides-range : (a b : Range) → Decides (is_same_range a b) (a ≡ b)
 Decides-range a b = Decides-like (is_same_range a b) (λ same. same_range a b same.0 same.1)
     (λ e. (ap (λ r. r.first) e, ap (λ r. r.count) e)) (Decides-and _ _ (Decides-eqb a.first b.first) (Decides-eqb a.count b.count))
 
-Decides-option : {A : Type 0} (E : A → A → Bool) → ((a b : A) → Decides (E a b) (a ≡ b)) → (x y : Option A)
+pub Decides-option : {A : Type 0} (E : A → A → Bool) → ((a b : A) → Decides (E a b) (a ≡ b)) → (x y : Option A)
     → Decides (option_eq E x y) (x ≡ y)
 Decides-option E each None None = (λ h. refl, λ e. refl)
 Decides-option E each None (Some y) = (λ h. absurd (cc), λ e. absurd (cc))
 Decides-option E each (Some x) None = (λ h. absurd (cc), λ e. absurd (cc))
 Decides-option E each (Some x) (Some y) = Decides-like (E x y) (λ same. ap Some same) (λ e. (cc)) (each x y)
 
-same_part : (a b : Part) → a.address ≡ b.address → a.range ≡ b.range → a ≡ b
+pub same_part : (a b : Part) → a.address ≡ b.address → a.range ≡ b.range → a ≡ b
 same_part a b address range = subst (λ x. a ≡ record { address = x; range = b.range }) address
     (subst (λ x. a ≡ record { address = a.address; range = x }) range refl)
 
-Decides-part : (a b : Part) → Decides (is_same_part a b) (a ≡ b)
+pub Decides-part : (a b : Part) → Decides (is_same_part a b) (a ≡ b)
 Decides-part a b = Decides-like (is_same_part a b) (λ same. same_part a b same.0 same.1) (λ e. (ap (λ p. p.address) e, ap (λ p. p.range) e))
     (Decides-and _ _ (bytes_eq-Decides a.address b.address) (Decides-option is_same_range Decides-range a.range b.range))
 
