@@ -2,8 +2,9 @@
 # Times `bridge dash` of a master with a media playlist of 100,000 segments, of equal durations and of durations that differ, and beside it
 # `bridge reload` of that playlist with itself, which reads it twice and writes nothing: what `dash` takes more than half of that is the
 # presentation and the written MPD. `bridge check` reads the MPD that was written and the playlist, and compares them; `bridge show` reads
-# either. Each command is run eleven times, the shortest run counts, with its largest memory. Where GStreamer's hlsdemux2 is installed, it
-# plays the same playlists from a server on this machine, and the shortest of five runs counts up to its first request for media.
+# either. Each command is run eleven times, the shortest run counts, with its largest memory; `dash` in both forms forty times in turn.
+# Where GStreamer's hlsdemux2 is installed, it plays the same playlists from a server on this machine, and the shortest of five runs counts
+# up to its first request for media.
 #
 # It wants `rt` and python3, and proves the program first where that isn't kept.
 set -euo pipefail
@@ -12,7 +13,7 @@ source "$(dirname "$0")/program.sh"
 cat > "$work/dash.py" <<'PY'
 import functools, http.server, os, shutil, subprocess, sys, threading, time
 
-from measure import measure
+from measure import launched, measure
 
 bridge, work = sys.argv[1:]
 os.chdir(work)
@@ -66,6 +67,15 @@ def told(label, words):
     print(f"{label}: {ms:.0f} ms, {mb:.1f} MiB")
     return ms
 
+def in_both_forms(name, master):
+    """Tells the shortest of runs of both forms in turn, since a machine is faster at one time than at another."""
+    forms = ["plain", "players"]
+    words = {form: [bridge, "dash", master, "--base=https://h.example/", f"--form={form}", f"--out={form}"] for form in forms}
+    runs = [[launched(words[form]) for form in forms] for _ in range(40)]
+    (plain, plain_mb), (players, players_mb) = [(min(run[k][1] for run in runs), max(run[k][2] for run in runs)) for k in (0, 1)]
+    print(f"dash --form=players, {name} durations, in turn with the plain form: {players:.0f} of {plain:.0f} ms, "
+          f"{players_mb:.1f} of {plain_mb:.1f} MiB, {os.path.getsize('players/manifest.mpd')} bytes of MPD")
+
 for name, duration in [("equal", lambda k: "4.004"), ("differing", lambda k: f"4.{k % 1000:03d}")]:
     playlists(name, duration)
     size, master = os.path.getsize(f"{name}.m3u8"), f"{name}-master.m3u8"
@@ -73,6 +83,7 @@ for name, duration in [("equal", lambda k: "4.004"), ("differing", lambda k: f"4
     twice = told(f"reload of that playlist with itself", ["reload", f"{name}.m3u8", f"{name}.m3u8"])
     written = os.path.getsize("out/manifest.mpd")
     print(f"so the presentation and {written / 1e6:.1f} MB of MPD: {whole - twice / 2:.0f} ms")
+    in_both_forms(name, master)
     compared = told("check of that MPD with the playlists", ["check", "out/manifest.mpd", master])
     read = sum(told(f"show of {file}", ["show", file]) for file in ("out/manifest.mpd", master))
     print(f"so check takes {compared / read:.2f} of what reading both files takes")

@@ -10,7 +10,7 @@ _bridge() {
     case $command in
     hls) options='--base= --now= --out= --digits=' wanted=mpd ;;
     hls-index) options='--base= --out= --digits=' wanted=mpd ;;
-    dash | dash-times | follow-hls) options='--base= --out=' wanted=m3u8 ;;
+    dash | dash-times | follow-hls) options='--base= --out= --form=' wanted=m3u8 ;;
     show) options='--base= --now= --digits=' wanted='@(mpd|m3u8)' ;;
     check) options='--base= --digits=' wanted='@(mpd|m3u8)' ;;
     compare) options='--base= --now= --digits= --within= --all=' wanted='@(mpd|m3u8)' ;;
@@ -24,6 +24,7 @@ _bridge() {
     case $prev in
     --base) mapfile -t COMPREPLY < <(compgen -W 'http:// https://' -- "$cur"); compopt -o nospace; return ;;
     --out) _filedir -d; return ;;
+    --form) mapfile -t COMPREPLY < <(compgen -W 'plain players' -- "$cur"); return ;;
     --digits) mapfile -t COMPREPLY < <(compgen -W '3 4 5 6 7 8 9' -- "$cur"); return ;;
     --now) mapfile -t COMPREPLY < <(compgen -W "$(date -u +%FT%TZ)" -- "$cur"); return ;;
     --seed | --within | --all) return ;;

@@ -6,7 +6,7 @@ use Rattle.std.proofs.{lemmas.Bool.cases_Bool, lemmas.Bool.Decides.nat_tests}
 use Rattle.std.specs.Prelude.{nat_le, codes, unwrap_or}
 use Rattle.bridge_jobs.specs.declared.{jobs.Job.Job, jobs.CheckJob.CheckJob, jobs.CompareJob.CompareJob, jobs.MasterJob.MasterJob}
 use Rattle.bridge_jobs.specs.declared.verb.Verb.{Verb}
-use Rattle.bridge_jobs.specs.Jobs.{compare_of, most_of, within_of}
+use Rattle.bridge_jobs.specs.Jobs.{compare_of, form_of, most_of, within_of}
 use Rattle.bridge_jobs.specs.Jobs.{◌>>=◌, agree_of, base_of, check_of, digits_in, digits_of, digits_or_six, file_of, first_verb, folder_in}
 use Rattle.bridge_jobs.specs.Jobs.{follow_of, hls_of, index_of, is_folder, job_by, job_of, make_of, master_of, name_in, now_of, out_of}
 use Rattle.bridge_jobs.specs.{Jobs.{reload_of, show_of}, Verbs.values_of}
@@ -100,17 +100,21 @@ named_in : (text : Option (List ℕ)) (name : List ℕ) → (text >>= name_in) �
 named_in None name is = absurd (cc)
 named_in (Some text) name is = named text name is
 
-master_in : (master base out : Option (List ℕ)) → ((m : List ℕ) → master ≡ Some m → IsTrue (is_name m))
-    → IfSome (master >>= (λ m. base >>= (λ b. out >>= (λ o. Some (record { master = m; base = b; out = o })))))
+master_in : {A : Type 0} (master base out : Option (List ℕ)) (form : Option A) (make : List ℕ → List ℕ → List ℕ → A → MasterJob)
+    → ((m b o : List ℕ) (f : A) → master ≡ Some m → IsTrue (is_name (make m b o f).master))
+    → IfSome (master >>= (λ m. base >>= (λ b. out >>= (λ o. form >>= (λ f. Some (make m b o f))))))
     (λ (j : MasterJob). IsTrue (is_name j.master))
-master_in None base out is = tt
-master_in (Some m) None out is = tt
-master_in (Some m) (Some b) None is = tt
-master_in (Some m) (Some b) (Some o) is = is m refl
+master_in None base out form make is = tt
+master_in (Some m) None out form make is = tt
+master_in (Some m) (Some b) None form make is = tt
+master_in (Some m) (Some b) (Some o) None make is = tt
+master_in (Some m) (Some b) (Some o) (Some f) make is = is m b o f refl
 
 master_bounded : (rows : List Row) → IfSome (master_of rows) (λ j. IsTrue (is_name j.master))
 unfolding master_of file_of
-master_bounded rows = master_in (file_of (codes "master") rows) (base_of rows) (out_of rows) (named_in (first_of (codes "master") rows))
+master_bounded rows =
+    master_in (file_of (codes "master") rows) (base_of rows) (out_of rows) (form_of rows) _
+    (λ m b o f is. named_in (first_of (codes "master") rows) m is)
 
 check_in : (mpd master base : Option (List ℕ)) (digits : Option ℕ) → ((m : List ℕ) → master ≡ Some m → IsTrue (is_name m))
     → IfSome (mpd >>= (λ f. master >>= (λ m.

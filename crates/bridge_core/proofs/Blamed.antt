@@ -1,9 +1,7 @@
 -- Faults of a run have their causes.
-use Rattle.bridge_io.specs.declared.outside.Fail.TheVariants as fail
 use Rattle.bridge_jobs.specs.declared.jobs.Job.TheVariants as job
 use Rattle.bridge_courses.specs.declared.ending.Ending.TheVariants as ending
 use Rattle.bridge_courses.specs.declared.status.Status.TheVariants as status
-use Rattle.bridge_courses.specs.declared.status.Verdict.TheVariants as verdict
 use Rattle.std.proofs.Common.{◌≡◌, ℕ, ◌≤◌, List, Option, None, Some, option_map, inl, inr, refl, subst, arith}
 use Rattle.bridge_io.specs.{Fault.Rose, Outside.Files}
 use Rattle.bridge_jobs.specs.declared.jobs.{Job.Job, FollowJob.FollowJob, MasterJob.MasterJob}

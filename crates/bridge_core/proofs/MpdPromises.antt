@@ -247,10 +247,10 @@ module _ (done : DoneIsWhole) (keeps : VerdictKeepsSteps) (own : OwnTextsAreAddr
         at = by.at;
         playlists = meaning.0;
         means = meaning.1.0;
-        text = manifest_text by.value;
-        written = rw last_is (put_there (in_folder job.out (codes "manifest.mpd")) (manifest_text by.value) first);
+        text = manifest_text job.form by.value;
+        written = rw last_is (put_there (in_folder job.out (codes "manifest.mpd")) (manifest_text job.form by.value) first);
         mpd = meaning_of by.value;
-        told = λ url now. same read.master.bytes by.found.url read.tracks read.medias by.value url now read.master.read
+        told = λ url now. same job.form read.master.bytes by.found.url read.tracks read.medias by.value url now read.master.read
             (each_bounded bounded first by.found.folder read.tracks read.medias read.playlists)
             (each_addressed addresses first by.found.folder read.tracks read.medias of_bytes read.playlists) read.presented;
         same = Same-wider IsSameTime IsSame (λ x y same. same.1.1) meaning.0 (meaning_of by.value) meaning.1.1;

@@ -7,12 +7,12 @@ use Rattle.bridge_io.specs.{InOrder.put_all, Outside.Files}
 use Rattle.bridge_jobs.specs.declared.jobs.{AgreeJob.AgreeJob, MasterJob.MasterJob}
 use Rattle.bridge_courses.specs.{Courses.{Course, World, files_of}, Laws.{DoneIsWhole, VerdictKeepsSteps}, Executions.IsExecution}
 use Rattle.bridge_courses.specs.{Executions.status_by, declared.status.Verdict.Verdict}
-use Rattle.bridge_report.specs.{Outcomes.{Ends, Outcome, Writes, base_refused, course_by, outcome_told}, Reading.Named}
+use Rattle.bridge_report.specs.{Outcomes.{Ends, Outcome, base_refused, course_by, outcome_told}, Reading.Named}
 use Rattle.bridge_playlists.specs.{declared.place.StorePlace.StorePlace, Places.store_place_of}
 use Rattle.bridge_steps.specs.Endings.{placed}
 use Rattle.bridge_reach.specs.{Agree.{agree_at, agree_outcome, judged}, DashTimes.{Timed, dash_times_at, dash_times_outcome}}
-use Rattle.bridge_reach.specs.{DashTimes.{files_of as timed_files, line_of, outcome_of, timed_at}, Promises.{AllAgree, DifferIsApart}}
-use Rattle.bridge_reach.specs.{Promises.{DoneAgrees, IsFirstApart, IsRead, IsWrittenTimed, WrittenAreFileTimes}}
+use Rattle.bridge_reach.specs.{DashTimes.{files_of as timed_files, line_of, outcome_of, timed_at}, Promises.{DifferIsApart}}
+use Rattle.bridge_reach.specs.{Promises.{DoneAgrees, WrittenAreFileTimes}}
 use Rattle.bridge_core.specs.{Courses.{course_of, course_of_job}, TimesPromises.{DifferHasAnother, DoneHasTheFilesTimes, HasTheFilesTimes}}
 use Rattle.bridge_core.specs.TimesPromises.{WrittenHasTheFilesTimes}
 use Rattle.bridge_core.proofs.DoneAt.{IsDoneAt, done_at}
@@ -21,12 +21,12 @@ use Rattle.bridge_core.proofs.DoneAt.{IsDoneAt, done_at}
 
 module _ (done : DoneIsWhole) (keeps : VerdictKeepsSteps) (timed : WrittenAreFileTimes) where
   outcome_there : (job : MasterJob) (first : Files) (place : Option StorePlace) (found : StorePlace) (value : Timed) → place ≡ Some found
-      → timed_at found first ≡ Ok value → placed (dash_times_at job (Some first)) place ≡ Some (outcome_of job (Ok value))
+      → timed_at job.form found first ≡ Ok value → placed (dash_times_at job (Some first)) place ≡ Some (outcome_of job (Ok value))
   outcome_there job first place found value at is =
       ap (λ p. placed (dash_times_at job (Some first)) p) at ∙ ap (λ r. Some (outcome_of job r)) is
 
   left_by : (job : MasterJob) (course : Course) (before after : World) (first last : Files) → before.files ≡ Some first
-      → after.files ≡ Some last → IsDoneAt (outcome_of job) timed_at (store_place_of job.base job.master) first course
+      → after.files ≡ Some last → IsDoneAt (outcome_of job) (timed_at job.form) (store_place_of job.base job.master) first course
       → IsExecution course status.Done before after → HasTheFilesTimes job first last
   unfolding dash_times_outcome
   left_by job course before after first last was is by run =
@@ -44,7 +44,7 @@ module _ (done : DoneIsWhole) (keeps : VerdictKeepsSteps) (timed : WrittenAreFil
   pub written_has_times : WrittenHasTheFilesTimes
   unfolding course_of dash_times_outcome
   written_has_times words job input course before after first last asks was is goes run =
-      let by = done_at (timed_files job) line_of timed_at keeps before after (store_place_of job.base job.master) first course
+      let by = done_at (timed_files job) line_of (timed_at job.form) keeps before after (store_place_of job.base job.master) first course
       (subst (λ asked. course_of_job asked (Some first) input ≡ Some course) asks goes) run in
       left_by job course before after first last was is by run
 

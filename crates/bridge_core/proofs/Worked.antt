@@ -4,7 +4,7 @@ use Rattle.std.proofs.Common.{◌≡◌, ℕ, List, Option, None, Some, refl, su
 use Rattle.std.specs.Option.{ForSome}
 use Rattle.bridge_io.specs.Outside.{Files}
 use Rattle.bridge_jobs.specs.declared.jobs.Job.{Job}
-use Rattle.bridge_courses.specs.{declared.ending.Ending.Ending, Courses.{Course, World}, Steps.Work}
+use Rattle.bridge_courses.specs.{declared.ending.Ending.Ending, Courses.{World}, Steps.Work}
 use Rattle.bridge_report.specs.Outcomes.{course_by}
 use Rattle.bridge_steps.specs.Endings.{JobEndsAs}
 use Rattle.bridge_steps.proofs.{Works.{met, work_of, works}, Unplaced.stays}

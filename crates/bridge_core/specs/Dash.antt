@@ -10,11 +10,11 @@ use Rattle.bridge_playlists.specs.{declared.place.StorePlace.StorePlace, Places.
 use Rattle.bridge_steps.specs.{Done.done_line, Endings.{outcome_written, placed}}
 
 -- the MPD: its name and its text
-abbrev pub mpd_file : (out : List ℕ) → Presented → List ℕ × List ℕ
-mpd_file out p = (in_folder out (codes "manifest.mpd"), manifest_text p)
+abbrev pub mpd_file : MasterJob → Presented → List ℕ × List ℕ
+mpd_file job p = (in_folder job.out (codes "manifest.mpd"), manifest_text job.form p)
 
 abbrev pub files_of : MasterJob → Presented → List (List ℕ × List ℕ)
-files_of job p = mpd_file job.out p ∷ []
+files_of job p = mpd_file job p ∷ []
 
 abbrev pub outcome_of : MasterJob → Result Presented Named → Outcome
 outcome_of job read = outcome_written (files_of job) done_line read

@@ -51,5 +51,8 @@ fn write<F: Store, L: Ledger>(
     let Ok((name, line)) = mpd_and_line(alloc, &job.out, presentation) else {
         return Ending::Memory;
     };
-    written(line, write_mpd(alloc, presentation, store, &name, steps))
+    written(
+        line,
+        write_mpd(alloc, job.form, presentation, store, &name, steps),
+    )
 }

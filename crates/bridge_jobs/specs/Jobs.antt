@@ -3,10 +3,11 @@ use Rattle.bridge_jobs.specs.declared.verb.Verb.TheVariants as verb
 use Rattle.bridge_jobs.specs.declared.jobs.Job.TheVariants as job
 use Rattle.std.specs.Prelude.{ℕ, ℤ, ◌-◌, ◌^◌, ◌==◌, ◌&&◌, ◌||◌, nat_le, Bool, codes, List, [], ◌∷◌, ◌++◌, length, if◌then◌else◌, Option, Some, None}
 use Rattle.std.specs.{Char.is_ascii_digit, List.list_all}
-use Rattle.std.specs.{Prelude.{option_and_then, option_map, unwrap_or, IfSome, IsTrue}, Result.result_ok}
+use Rattle.std.specs.{Prelude.{bytes_eq, option_and_then, option_map, unwrap_or, IfSome, IsTrue}, Result.result_ok}
 use Rattle.clap.specs.Words.{Row, Text, first_of}
 use Rattle.iso_time.specs.{Duration.duration_of, Instant.{instant_of, IsReadable}}
 use Rattle.bridge_io.specs.Names.{is_name}
+use Rattle.segment_forms.specs.{declared.form.Form.Form, declared.form.Form.TheVariants.{Plain, Players}}
 use Rattle.bridge_jobs.specs.{declared.verb.Verb.Verb, declared.jobs.Job.Job, Numbers.decimal_of, Verbs.{verb_of, values_of}}
 use Rattle.bridge_jobs.specs.declared.jobs.{AgreeJob.AgreeJob, CheckJob.CheckJob, FollowJob.FollowJob, HlsJob.HlsJob, IndexJob.IndexJob}
 use Rattle.bridge_jobs.specs.declared.jobs.CompareJob.{CompareJob}
@@ -33,6 +34,13 @@ folder_in text = if is_folder text then Some text else None
 abbrev pub digits_in : Text → Option ℕ
 digits_in (c ∷ []) = if nat_le 51 c && nat_le c 57 then Some (c - 48) else None
 digits_in _ = None
+
+-- `plain` or `players`
+abbrev pub form_in : Text → Option Form
+form_in text =
+    if bytes_eq text (codes "plain") then Some Plain
+    else if bytes_eq text (codes "players") then Some Players
+    else None
 
 -- 1 to 10 digits, with a value below 2^32
 abbrev pub seed_in : Text → Option ℕ
@@ -68,6 +76,14 @@ digits_or_six (Some text) = digits_in text
 unfoldable pub digits_of : List Row → Option ℕ
 digits_of rows = digits_or_six (first_of (codes "digits") rows)
 
+-- by default `plain`
+abbrev pub form_or_plain : Option Text → Option Form
+form_or_plain None = Some Plain
+form_or_plain (Some text) = form_in text
+
+unfoldable pub form_of : List Row → Option Form
+form_of rows = form_or_plain (first_of (codes "form") rows)
+
 unfoldable pub seed_of : List Row → Option ℕ
 seed_of rows = first_of (codes "seed") rows >>= seed_in
 
@@ -87,7 +103,8 @@ master_of rows = do
   master ← file_of (codes "master") rows
   base ← base_of rows
   out ← out_of rows
-  Some (record { master = master; base = base; out = out })
+  form ← form_of rows
+  Some (record { master = master; base = base; out = out; form = form })
 
 unfoldable pub follow_of : List Row → Option FollowJob
 follow_of rows = do

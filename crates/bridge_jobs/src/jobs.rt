@@ -2,12 +2,13 @@
 use bridge_io::{Name, Text};
 use exact_time::{Digits, Nanos};
 use iso_time::Instant;
+use segment_forms::Form;
 
 /// A command with its arguments.
 ///
 /// A `base` is the URL of the directory that the store's root stands for, as it is written. An `out` is the directory
 /// of the files that are written, at most 242 bytes long. `digits` is the number of decimals of printed durations.
-/// `instant` is the time at which a live MPD is read.
+/// `instant` is the time at which a live MPD is read. `form` is how an MPD gives the segments of its tracks.
 #[derive(Drop)]
 pub enum Job {
     /// Converts an MPD to playlists.
@@ -60,6 +61,8 @@ pub struct MasterJob {
     pub base: Text,
     /// The directory of the MPD.
     pub out: Name,
+    /// How the MPD gives the segments of its tracks.
+    pub form: Form,
 }
 
 /// The arguments of `follow`.

@@ -1,8 +1,8 @@
 // The values of a command's parameters.
 ghost use Rattle.std.specs.Prelude.{◌≡◌, ℕ, List, map, option_map, IfOk, IfSome, IsTrue};
 ghost use Rattle.bridge_jobs.specs.Given.{IsGiven};
-ghost use Rattle.bridge_jobs.specs.Jobs.{base_of, digits_in, digits_of, file_of, folder_in, is_decimal_byte, is_folder, most_of};
-ghost use Rattle.bridge_jobs.specs.Jobs.{name_in, now_of, out_of, seconds_in, seed_of, within_of};
+ghost use Rattle.bridge_jobs.specs.Jobs.{base_of, digits_in, digits_of, file_of, folder_in, form_in, form_of, is_decimal_byte};
+ghost use Rattle.bridge_jobs.specs.Jobs.{is_folder, most_of, name_in, now_of, out_of, seconds_in, seed_of, within_of};
 ghost use Rattle.std.specs.List.{list_all};
 ghost use Rattle.bridge_jobs.specs.Verbs.{values_of};
 ghost use Rattle.iso_time.specs.Instant.{IsReadable};
@@ -15,6 +15,7 @@ use clap::ArgMatches;
 use clap::error::ErrorKind;
 use exact_time::{Digits, Nanos};
 use iso_time::{Instant, read_duration, read_instant};
+use segment_forms::Form;
 use std::alloc::Global;
 use std::marker::Model;
 
@@ -118,6 +119,17 @@ impl<'a> Values<'a> {
         }
     }
 
+    /// How an MPD gives the segments of its tracks: `plain` or `players`, by default `plain`.
+    #[tactic(auto, unfolding(crate::specs::Jobs::form_of))]
+    pub fn form(&self) -> Result<Form, WordsFault>
+        ensures { IsGiven (form_of self.now) result }
+    {
+        match self.text("form") {
+            Some(text) => form(text).ok_or(WordsFault::NoJob),
+            None => Ok(Form::Plain),
+        }
+    }
+
     /// The seed of a generated MPD: 1 to 10 digits, with a value below 2^32.
     #[tactic(auto, unfolding(crate::specs::Jobs::seed_of))]
     pub fn seed(&self) -> Result<u32, WordsFault>
@@ -168,6 +180,16 @@ fn digits(text: &str) -> Option<Digits>
 {
     match text.as_bytes() {
         [digit @ b'3'..=b'9'] => Digits::of(digit - b'0'),
+        _ => None,
+    }
+}
+
+fn form(text: &str) -> Option<Form>
+    ensures { result ≡ form_in text.now }
+{
+    match text {
+        "plain" => Some(Form::Plain),
+        "players" => Some(Form::Players),
         _ => None,
     }
 }

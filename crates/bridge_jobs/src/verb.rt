@@ -55,7 +55,12 @@ static HLS: [Parameter; 5] = [
     Optional("digits"),
 ];
 
-static DASH: [Parameter; 3] = [Positional("master"), Required("base"), Optional("out")];
+static DASH: [Parameter; 4] = [
+    Positional("master"),
+    Required("base"),
+    Optional("out"),
+    Optional("form"),
+];
 
 static FOLLOW: [Parameter; 4] = [
     Positional("name"),

@@ -103,6 +103,7 @@ fn master(alloc: Global, values: &Values) -> Result<MasterJob, WordsFault>
         master: values.file(alloc, "master")?,
         base: values.base(alloc)?,
         out: values.out(alloc)?,
+        form: values.form()?,
     })
 }
 

@@ -1,4 +1,5 @@
 -- Where the files and the input are told, the course of any words is.
+use Rattle.bridge_jobs.specs.declared.jobs.MasterJob.{MasterJob}
 use Rattle.bridge_jobs.specs.declared.jobs.Job.TheVariants as job
 use Rattle.std.proofs.Common.{ℕ, List, Option, Some, None, IsSome, Result, Ok, Err, option_map, refl}
 use Rattle.bridge_courses.specs.Courses.{Course}
@@ -30,9 +31,9 @@ course_under : {P : Type 0} (at : P → Option Course) (place : Option P) → ((
 course_under at None each = refl
 course_under at (Some place) each = each place
 
-any_rounds : (out input : List ℕ) (read : Result (List MasterTrack) Named) → IsSome (rounds_of out (Some input) read)
-any_rounds out input (Ok tracks) = refl
-any_rounds out input (Err named) = refl
+any_rounds : (asked : MasterJob) (input : List ℕ) (read : Result (List MasterTrack) Named) → IsSome (rounds_of asked (Some input) read)
+any_rounds asked input (Ok tracks) = refl
+any_rounds asked input (Err named) = refl
 
 any_way : {U V : Type 0} (f : Option U → Option V) (u : Option U) → IsSome (f None) → ((x : U) → IsSome (f (Some x))) → IsSome (f u)
 any_way f None without with_one = without
@@ -55,8 +56,8 @@ job_is_known (Some (job.DashTimes j)) files input = asked (dash_times_at j (Some
 job_is_known (Some (job.Agree j)) files input = asked (agree_at (Some files)) (store_place_of j.base j.mpd) (λ p. refl)
 job_is_known (Some (job.Follow j)) files input = course_under (follow_at j (Some input)) (store_place_of j.base j.name) (λ p. refl)
 job_is_known (Some (job.FollowHls j)) files input =
-    course_under (rounds_at j.out (Some files) (Some input)) (store_place_of j.base j.master)
-    (λ p. any_rounds j.out input (master_at p files))
+    course_under (rounds_at j (Some files) (Some input)) (store_place_of j.base j.master)
+    (λ p. any_rounds j input (master_at p files))
 
 pub course_is_known : (words : List (List ℕ)) (files : Files) (input : List ℕ) → IsSome (course_of words (Some files) (Some input))
 unfolding course_of

@@ -1,20 +1,17 @@
 -- What rounds leave that are accepted one behind another.
-use Rattle.std.proofs.Common.{◌≡◌, ℕ, cond, List, [], ◌∷◌, take, Option, None, Some, option_map, Result, Ok, Err, refl, sym, ap, ◌∙◌, subst}
+use Rattle.std.proofs.Common.{◌≡◌, ℕ, cond, List, [], ◌∷◌, take, Option, None, Some, option_map, Result, Ok, Err, refl, ap, ◌∙◌}
 use Rattle.std.proofs.lemmas.Slice.Eq.{bytes_eq-Decides}
 use Rattle.std.specs.{Prelude.{IsSome, codes}, Option.option_map_or, Result.{result_err, result_unwrap_or}}
 use Rattle.bridge_io.proofs.AndThen.{steps_of}
-use Rattle.bridge_io.specs.{InOrder.put_all, Outside.{Files, Changes}}
-use Rattle.hls_master.specs.declared.track.MasterTrack.{MasterTrack}
 use Rattle.hls_follow.specs.declared.state.Followed.{Followed}
 use Rattle.dash_writer.specs.Live.{live_text}
 use Rattle.bridge_jobs.specs.{Frames.start, Laws.in_folder, declared.round.Round.Round}
-use Rattle.bridge_courses.specs.Courses.{files_to}
 use Rattle.bridge_report.specs.{Following.unless_refused, Laws.{FileIsOfAccepted, FilesAreOfAccepted, IsRewritten, accepted_in}}
 use Rattle.bridge_report.specs.Laws.{files_along, state_after}
 use Rattle.bridge_report.specs.{Refusals.refusal_text, declared.refusal.Refusal.Refusal}
 use Rattle.bridge_steps.specs.Follow.{fault_line}
-use Rattle.bridge_reach.specs.RoundLaws.{AcceptedLeaveAnMpd, FileIsOfTheHistory, NoneWriteNothing, accepted_among, left_by}
-use Rattle.bridge_reach.specs.Rounds.{course_with, followed_rounds, hls_of, medias_of, mpd_text, no_rounds, round_state, round_stream, taken}
+use Rattle.bridge_reach.specs.RoundLaws.{AcceptedLeaveAnMpd, FileIsOfTheHistory, NoneWriteNothing, accepted_among}
+use Rattle.bridge_reach.specs.Rounds.{followed_rounds, hls_of, medias_of, mpd_text, no_rounds, round_state, round_stream, taken}
 use Rattle.bridge_reach.specs.{declared.rounds.LiveHls.LiveHls, declared.rounds.LiveRounds.LiveRounds}
 use Rattle.bridge_reach.proofs.Rounding.{IsOneMore, one_more}
 
@@ -65,29 +62,29 @@ module _ (hls : LiveHls) where
       go (Some why) e some next = next some
 
 pub leave_an_mpd : AcceptedLeaveAnMpd
-leave_an_mpd out tracks bytes n round more is = let hls = hls_of out tracks in
+leave_an_mpd job tracks bytes n round more is = let hls = hls_of job tracks in
     mpd_comes hls (take n (round_stream hls start bytes).0) (no_rounds tracks) round more is
 
 -- the one file is written anew
-rewritten : (hls : LiveHls) → IsRewritten (followed_rounds hls) hls.name mpd_text
-rewritten hls s x files = let text = mpd_text ((followed_rounds hls).after s x) in
+rewritten : (hls : LiveHls) → IsRewritten (followed_rounds hls) hls.name (mpd_text hls.form)
+rewritten hls s x files = let text = mpd_text hls.form ((followed_rounds hls).after s x) in
     ap (λ b. cond b (Some text) (files hls.name)) ((bytes_eq-Decides hls.name hls.name).1 refl)
 
 pub file_is : FileIsOfAccepted LiveRounds Round → FileIsOfTheHistory
-file_is law out tracks bytes n followed first last left puts = go (accepted_among out tracks bytes n) refl left
+file_is law job tracks bytes n followed first last left puts = go (accepted_among job tracks bytes n) refl left
   where
-    go : (xs : List Round) → accepted_among out tracks bytes n ≡ xs
-        → (state_after (followed_rounds (hls_of out tracks)) (no_rounds tracks) xs).follow.followed ≡ Some followed
-        → last (in_folder out (codes "live.mpd")) ≡ Some (live_text followed.mpd)
+    go : (xs : List Round) → accepted_among job tracks bytes n ≡ xs
+        → (state_after (followed_rounds (hls_of job tracks)) (no_rounds tracks) xs).follow.followed ≡ Some followed
+        → last (in_folder job.out (codes "live.mpd")) ≡ Some (live_text job.form followed.mpd)
     go [] e none = absurd (cc)
-    go (x ∷ more) e left = let stream = round_stream (hls_of out tracks) start bytes in
-        law (followed_rounds (hls_of out tracks)) (in_folder out (codes "live.mpd")) mpd_text (rewritten (hls_of out tracks))
+    go (x ∷ more) e left = let stream = round_stream (hls_of job tracks) start bytes in
+        law (followed_rounds (hls_of job tracks)) (in_folder job.out (codes "live.mpd")) (mpd_text job.form) (rewritten (hls_of job tracks))
         (no_rounds tracks)
         0 0 stream.0 (option_map fault_line stream.1) n x more first last e puts
-        ∙ ap (λ (o : Option Followed). Some (option_map_or (λ f. live_text f.mpd) o [])) left
+        ∙ ap (λ (o : Option Followed). Some (option_map_or (λ f. live_text job.form f.mpd) o [])) left
 
 pub none_write : FilesAreOfAccepted LiveRounds Round → NoneWriteNothing
-none_write along out tracks bytes n none =
-    let f = followed_rounds (hls_of out tracks) in
-    let stream = round_stream (hls_of out tracks) start bytes in
+none_write along job tracks bytes n none =
+    let f = followed_rounds (hls_of job tracks) in
+    let stream = round_stream (hls_of job tracks) start bytes in
     along f (no_rounds tracks) 0 0 stream.0 (option_map fault_line stream.1) n ∙ ap (files_along f (no_rounds tracks)) none

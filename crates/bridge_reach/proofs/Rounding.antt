@@ -6,6 +6,7 @@ use Rattle.std.proofs.Common.{OnOk, refl, sym, ap, ◌∙◌, subst, arith}
 use Rattle.std.specs.{Prelude.{IfErr, IfOk, IsSome}, Option.option_map_or, Result.{result_err, result_ok, result_unwrap_or}}
 use Rattle.bridge_io.specs.{Answer.{Gives, and_then, told_as}, InOrder.{AreBegun, put_all}, Outside.{Changes, Files, put}, Written.HasFront}
 use Rattle.bridge_io.specs.declared.out_fault.OutFault.{OutFault}
+use Rattle.segment_forms.specs.declared.form.Form.{Form}
 use Rattle.dash_writer.specs.{Live.live_text, declared.live.LiveMpd.LiveMpd}
 use Rattle.iso_time.specs.Instant.{IsReadable}
 use Rattle.hls_media.specs.declared.media.Media.{Media}
@@ -144,22 +145,22 @@ module _ (hls : LiveHls) (s s' : LiveRounds) (round : Round) (medias : List Medi
 
 -- ---- what is written
 
-shown : (o : Option Followed) (mpd : LiveMpd) → option_map (λ (f : Followed). f.mpd) o ≡ Some mpd
-    → live_text mpd ≡ option_map_or (λ (f : Followed). live_text f.mpd) o []
-shown None mpd is = absurd (cc)
-shown (Some f) mpd is = let same : f.mpd ≡ mpd = cc in ap live_text (sym same)
+shown : (form : Form) (o : Option Followed) (mpd : LiveMpd) → option_map (λ (f : Followed). f.mpd) o ≡ Some mpd
+    → live_text form mpd ≡ option_map_or (λ (f : Followed). live_text form f.mpd) o []
+shown form None mpd is = absurd (cc)
+shown form (Some f) mpd is = let same : f.mpd ≡ mpd = cc in ap (live_text form) (sym same)
 
 -- the MPD that is shown is put, or begun
-module _ (name : List ℕ) (s : LiveRounds) (mpd : LiveMpd) (is : option_map (λ (f : Followed). f.mpd) s.follow.followed ≡ Some mpd)
+module _ (form : Form) (name : List ℕ) (s : LiveRounds) (mpd : LiveMpd) (is : option_map (λ (f : Followed). f.mpd) s.follow.followed ≡ Some mpd)
     (before after : Option Files) where
-  pub put_by : (result : Result (Unit {0}) OutFault) → OnOk result (Changes (put name (live_text mpd)) before after)
-      → OnOk result (Changes (put_all ((name, mpd_text s) ∷ [])) before after)
-  put_by (Ok done) puts = one_put (name, mpd_text s) before after
-      (subst (λ text. Changes (put name text) before after) (shown s.follow.followed mpd is) puts)
+  pub put_by : (result : Result (Unit {0}) OutFault) → OnOk result (Changes (put name (live_text form mpd)) before after)
+      → OnOk result (Changes (put_all ((name, mpd_text form s) ∷ [])) before after)
+  put_by (Ok done) puts = one_put (name, mpd_text form s) before after
+      (subst (λ text. Changes (put name text) before after) (shown form s.follow.followed mpd is) puts)
   put_by (Err e) puts = tt
 
-  pub begun_by : (result : Result (Unit {0}) OutFault) → OnErr result ((after ≡ before) ⊎ HasFront name (live_text mpd) before after)
-      → OnErr result (AreBegun ((name, mpd_text s) ∷ []) before after)
+  pub begun_by : (result : Result (Unit {0}) OutFault) → OnErr result ((after ≡ before) ⊎ HasFront name (live_text form mpd) before after)
+      → OnErr result (AreBegun ((name, mpd_text form s) ∷ []) before after)
   begun_by (Ok done) may = tt
-  begun_by (Err e) may = begun (name, mpd_text s) before after
-      (subst (λ text. (after ≡ before) ⊎ HasFront name text before after) (shown s.follow.followed mpd is) may)
+  begun_by (Err e) may = begun (name, mpd_text form s) before after
+      (subst (λ text. (after ≡ before) ⊎ HasFront name text before after) (shown form s.follow.followed mpd is) may)

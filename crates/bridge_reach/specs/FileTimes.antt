@@ -8,6 +8,7 @@ use Rattle.bridge_io.specs.{Outside.Files, Answer.told_as}
 use Rattle.url_parts.specs.{Addresses.local_name_of, declared.address.Part.Part}
 use Rattle.fragment_times.specs.{declared.fault.SegmentSpot.SegmentSpot, declared.fault.TimesFault.TimesFault}
 use Rattle.fragment_times.specs.{declared.times.SegmentTimes.SegmentTimes, Durations.durations_of, Times.{parts_of, times_of}}
+use Rattle.segment_forms.specs.declared.form.Form.{Form}
 use Rattle.presentation.specs.{declared.fault.PresentationFault.TheVariants.Memory, declared.parts.Content.Content}
 use Rattle.presentation.specs.Presented.{Presented, content_at, listed_at}
 use Rattle.bridge_playlists.specs.declared.place.StorePlace.{StorePlace}
@@ -47,5 +48,5 @@ named_by manifest p fault.Memory = (manifest.file, refusal.Presentation Memory)
 abbrev pub times_at : (manifest : StorePlace) → Files → Presented → Result (List SegmentTimes) Named
 times_at manifest files p = told_as (named_by manifest p) (times_of manifest.folder files p)
 
-abbrev pub durations_at : (manifest : StorePlace) → Presented → List SegmentTimes → Result (List (List ℕ)) Named
-durations_at manifest p times = told_as (named_by manifest p) (durations_of p times)
+abbrev pub durations_at : Form → (manifest : StorePlace) → Presented → List SegmentTimes → Result (List (List ℕ)) Named
+durations_at form manifest p times = told_as (named_by manifest p) (durations_of form p times)

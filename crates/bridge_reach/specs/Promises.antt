@@ -1,10 +1,12 @@
 -- What `dash-times` guarantees for the MPD that it writes, and `agree` for what it reports (ISO/IEC 14496-12, 8.4.2 and
 -- 8.8.12).
 use Rattle.bridge_courses.specs.declared.status.Verdict.TheVariants as verdict
-use Rattle.std.specs.{Prelude.{◌≡◌, ◌⊎◌, ◌<◌, ℕ, ◌+◌, ◌*◌, Bool, true, false, List, [], ◌∷◌, length, slice_get, Some, Ok}, Option.ForSome}
+use Rattle.std.specs.Prelude.{◌≡◌, ◌⊎◌, ◌<◌, ◌≤◌, ℕ, ◌+◌, ◌*◌, Bool, true, false, List, [], ◌∷◌, length, drop, take, slice_get, Some, Ok}
+use Rattle.std.specs.{Option.ForSome, Prelude.All}
 use Rattle.bridge_io.specs.Outside.{Files}
 use Rattle.url_parts.specs.declared.address.Part.{Part}
 use Rattle.timeline.specs.{Expansions.Timing, Listed.offset_of}
+use Rattle.segment_forms.specs.declared.form.Form.{Form, TheVariants.{Plain, Players}}
 use Rattle.dash_writer.specs.declared.timed.TickRun.{TickRun}
 use Rattle.fragment_times.specs.{declared.fault.SegmentSpot.SegmentSpot, Agreeing.is_same, Parts.{scale_at, start_at}, Times.all_starts}
 use Rattle.fragment_times.specs.Times.{parts_of}
@@ -33,6 +35,24 @@ IsTimed folder files p runs s t = ForSome (content_at p s t) (λ content. (run :
     ≡ Some run)
     × AreFileTimes folder files content.initialization (parts_of content.runs (listed_at p s t)) run)
 
+-- the presentation time offsets of two tracks, over their timescales, are one time
+abbrev pub HaveOneOffset : TickRun → TickRun → Type 0
+HaveOneOffset one other = one.offset * other.scale ≡ other.offset * one.scale
+
+-- a track's Period doesn't start after its first segment, and starts at one time with those of the other tracks
+pub record IsInStep (runs : List TickRun) (run : TickRun) : Type 0 where
+  pub begins : run.offset ≤ run.first
+  pub same : All (HaveOneOffset run) runs
+
+-- a Period with these tracks: in the plain form it starts for each track with its own first segment, and for players at one time
+abbrev pub AreStarted : Form → List TickRun → Type 0
+AreStarted Plain runs = All (λ (run : TickRun). run.offset ≡ run.first) runs
+AreStarted Players runs = All (IsInStep runs) runs
+
+-- the tracks of a section
+abbrev pub runs_in : Presented → List TickRun → (s : ℕ) → List TickRun
+runs_in p runs s = take (length p.tracks) (drop (s * length p.tracks) runs)
+
 -- the written MPD has the decode times of its segments' files
 pub record IsWrittenTimed (job : MasterJob) (files : Files) (written : List (List ℕ × List ℕ)) : Type 0 where
   pub place : StorePlace
@@ -43,6 +63,7 @@ pub record IsWrittenTimed (job : MasterJob) (files : Files) (written : List (Lis
   pub text : written ≡ files_of job (presentation, runs)
   pub timed : (s t : ℕ) → s < length presentation.sections → t < length presentation.tracks
       → IsTimed place.folder files presentation runs s t
+  pub started : (s : ℕ) → s < length presentation.sections → AreStarted job.form (runs_in presentation runs s)
 
 abbrev pub WrittenAreFileTimes : Type 0
 WrittenAreFileTimes = (job : MasterJob) (files : Files) (written : List (List ℕ × List ℕ)) (line : List ℕ) (reads : Bool)

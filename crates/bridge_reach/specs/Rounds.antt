@@ -10,6 +10,7 @@ use Rattle.iso_time.specs.Instant.{IsReadable}
 use Rattle.hls_master.specs.declared.track.MasterTrack.{MasterTrack}
 use Rattle.hls_media.specs.{Media.media_of, declared.media.Media.Media}
 use Rattle.hls_follow.specs.Rounds.{appended_by, next_of}
+use Rattle.segment_forms.specs.declared.form.Form.{Form}
 use Rattle.dash_writer.specs.Live.{live_text}
 use Rattle.bridge_jobs.specs.{Laws.in_folder, Rounds.rounds_from, declared.frame.FramePos.FramePos, declared.round.Round.Round}
 use Rattle.bridge_jobs.specs.declared.jobs.MasterJob.{MasterJob}
@@ -53,9 +54,9 @@ round_state hls s round = and_then (medias_of hls.urls round.bodies) (taken s ro
 unfoldable pub round_appends : LiveHls → LiveRounds → Round → ℕ
 round_appends hls s round = option_map_or (appended_by s.follow) (result_ok (medias_of hls.urls round.bodies)) 0
 
--- the text of the MPD after the accepted snapshots
-abbrev pub mpd_text : LiveRounds → List ℕ
-mpd_text s = option_map_or (λ followed. live_text followed.mpd) s.follow.followed []
+-- the text of the MPD after the accepted snapshots, in a form
+abbrev pub mpd_text : Form → LiveRounds → List ℕ
+mpd_text form s = option_map_or (λ followed. live_text form followed.mpd) s.follow.followed []
 
 -- ---- what is followed
 
@@ -64,7 +65,7 @@ abbrev pub followed_rounds : LiveHls → Followed LiveRounds Round
 followed_rounds hls = record {
   refusal = λ s round. option_map refusal_text (result_err (round_state hls s round));
   after = λ s round. result_unwrap_or (round_state hls s round) s;
-  files = λ s. (hls.name, mpd_text s) ∷ [];
+  files = λ s. (hls.name, mpd_text hls.form s) ∷ [];
   appended = round_appends hls;
   makes = λ s round. 0;
 }
@@ -88,29 +89,29 @@ pub record IsKept (hls : LiveHls) (s : LiveRounds) : Type 0 where
 abbrev pub urls_of : List MasterTrack → List (List ℕ)
 urls_of tracks = map (λ (track : MasterTrack). track.address) tracks
 
--- the playlists of a master playlist's tracks, with the MPD in a folder
-abbrev pub hls_of : (out : List ℕ) → List MasterTrack → LiveHls
-hls_of out tracks = record { urls = urls_of tracks; name = in_folder out (codes "live.mpd") }
+-- the playlists of a master playlist's tracks, with the MPD in the command's folder
+abbrev pub hls_of : MasterJob → List MasterTrack → LiveHls
+hls_of job tracks = record { urls = urls_of tracks; form = job.form; name = in_folder job.out (codes "live.mpd") }
 
 abbrev pub no_rounds : List MasterTrack → LiveRounds
 no_rounds tracks = record { follow = record { tracks = tracks; followed = None }; accepted = 0 }
 
 -- the snapshots of these bytes are followed
-abbrev pub course_with : (out : List ℕ) → List MasterTrack → (bytes : List ℕ) → Course
-course_with out tracks bytes = let hls = hls_of out tracks in
+abbrev pub course_with : MasterJob → List MasterTrack → (bytes : List ℕ) → Course
+course_with job tracks bytes = let hls = hls_of job tracks in
     follow_course (followed_rounds hls) (round_stream hls) (no_rounds tracks) bytes
 
 -- a rejected master playlist is reported whatever the input contains
-abbrev pub rounds_of : (out : List ℕ) → (input : Option (List ℕ)) → Result (List MasterTrack) Named → Option Course
-rounds_of out input (Ok tracks) = option_map (course_with out tracks) input
-rounds_of out input (Err named) = Some (course_by (Ends verdict.Refused (refusal_line named.0 named.1) true true))
+abbrev pub rounds_of : MasterJob → (input : Option (List ℕ)) → Result (List MasterTrack) Named → Option Course
+rounds_of job input (Ok tracks) = option_map (course_with job tracks) input
+rounds_of job input (Err named) = Some (course_by (Ends verdict.Refused (refusal_line named.0 named.1) true true))
 
 -- the master playlist is at this location, and its snapshots come from the input
-abbrev pub rounds_at : (out : List ℕ) → Option Files → (input : Option (List ℕ)) → StorePlace → Option Course
-rounds_at out files input place = option_and_then (λ files. rounds_of out input (master_at place files)) files
+abbrev pub rounds_at : MasterJob → Option Files → (input : Option (List ℕ)) → StorePlace → Option Course
+rounds_at job files input place = option_and_then (λ files. rounds_of job input (master_at place files)) files
 
 unfoldable pub rounds_course : MasterJob → Option Files → (input : Option (List ℕ)) → Option Course
-rounds_course job files input = course_placed (rounds_at job.out files input) (store_place_of job.base job.master)
+rounds_course job files input = course_placed (rounds_at job files input) (store_place_of job.base job.master)
 
 -- ---- causes
 

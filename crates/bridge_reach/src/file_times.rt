@@ -17,6 +17,7 @@ use fragment_times::{
     DurationsList, FileFault, SegmentSpot, TimesFault, TimesList, durations, fragment_times,
 };
 use presentation::Presentation;
+use segment_forms::Form;
 use std::alloc::Global;
 
 /// The media times of a presentation's listed segments by the media files, or the first error, of a media file or of the
@@ -40,9 +41,10 @@ pub(crate) fn times_at<F: Store, L: Ledger>(
     }
 }
 
-/// The duration of each segment in ticks by these times, or the first error.
+/// The duration of each segment in ticks by these times, for a form of MPD, or the first error.
 pub(crate) fn durations_at<L: Ledger>(
     alloc: Global,
+    form: Form,
     manifest: &StorePlace,
     presentation: &Presentation,
     times: &TimesList,
@@ -51,11 +53,11 @@ pub(crate) fn durations_at<L: Ledger>(
     requires listable { AreListable presentation.now }
     requires filled { FillPlaces presentation.now (length times.now) }
     requires scaled { All IsScaled times.now }
-    ensures durations { Gives (λ durations. durations) halted result (spec.durations_at manifest.now presentation.now times.now) }
+    ensures durations { Gives (λ durations. durations) halted result (spec.durations_at form manifest.now presentation.now times.now) }
     ensures as_many { IfOk result (λ durations. length durations ≡ length times.now) }
     ensures no_fault { IsNoReadFault result }
 {
-    match durations(alloc, presentation, times) {
+    match durations(alloc, form, presentation, times) {
         Ok(durations) => Ok(durations),
         Err(fault) => Err(untimed(alloc, manifest, presentation, fault, steps)),
     }

@@ -6,7 +6,7 @@ ghost use Rattle.bridge_reach.specs.Rounds as spec;
 
 use crate::rounds::{BaseList, LiveHls, LiveRounds};
 use bridge_courses::Ending;
-use bridge_io::{Ledger, Name, NoMemory, Sink, Source, Steps, Store};
+use bridge_io::{Ledger, NoMemory, Sink, Source, Steps, Store};
 use bridge_jobs::MasterJob;
 use bridge_playlists::{StorePlace, base_at, master_at};
 use bridge_report::halted;
@@ -35,7 +35,7 @@ pub fn run_follow_hls<I: Source, F: Store, P: Sink, L: Ledger>(
         (world_of I.Source F.Store P.Sink input.new store.new report.new steps.new) }
 {
     match place_in(alloc, &job.base, &job.master) {
-        Ok(place) => follow_at(alloc, &place, &job.out, input, store, report, steps),
+        Ok(place) => follow_at(alloc, &place, &job, input, store, report, steps),
         Err(told) => told,
     }
 }
@@ -44,13 +44,13 @@ pub fn run_follow_hls<I: Source, F: Store, P: Sink, L: Ledger>(
 fn follow_at<I: Source, F: Store, P: Sink, L: Ledger>(
     alloc: Global,
     place: &StorePlace,
-    out: &Name,
+    job: &MasterJob,
     input: &mut I,
     store: &mut F,
     report: &mut P,
     steps: &mut Steps<L>,
 ) -> Ending
-    ensures runs { RunsAs (spec.rounds_at out.now (F.files store.old) (I.remaining input.old) place.now) result
+    ensures runs { RunsAs (spec.rounds_at job.now (F.files store.old) (I.remaining input.old) place.now) result
         (world_of I.Source F.Store P.Sink input.old store.old report.old steps.old)
         (world_of I.Source F.Store P.Sink input.new store.new report.new steps.new) }
     ensures caused { spec.IsCausedByEither result
@@ -58,7 +58,7 @@ fn follow_at<I: Source, F: Store, P: Sink, L: Ledger>(
         (world_of I.Source F.Store P.Sink input.new store.new report.new steps.new) }
 {
     match master_at(alloc, place, store) {
-        Ok(master) => follow_master(alloc, master, out, input, store, report, steps),
+        Ok(master) => follow_master(alloc, master, job, input, store, report, steps),
         Err(halt) => halted(alloc, halt),
     }
 }
@@ -67,20 +67,20 @@ fn follow_at<I: Source, F: Store, P: Sink, L: Ledger>(
 fn follow_master<I: Source, F: Store, P: Sink, L: Ledger>(
     alloc: Global,
     master: Master,
-    out: &Name,
+    job: &MasterJob,
     input: &mut I,
     store: &mut F,
     report: &mut P,
     steps: &mut Steps<L>,
 ) -> Ending
-    ensures runs { RunsAs (option_map (spec.course_with out.now master) (I.remaining input.old)) result
+    ensures runs { RunsAs (option_map (spec.course_with job.now master) (I.remaining input.old)) result
         (world_of I.Source F.Store P.Sink input.old store.old report.old steps.old)
         (world_of I.Source F.Store P.Sink input.new store.new report.new steps.new) }
     ensures caused { IsCaused result
         (world_of I.Source F.Store P.Sink input.old store.old report.old steps.old)
         (world_of I.Source F.Store P.Sink input.new store.new report.new steps.new) }
 {
-    match begin(alloc, master, out) {
+    match begin(alloc, master, job) {
         Ok(begun) => {
             let Begun { hls, rounds } = begun;
             follow(alloc, &hls, rounds, input, store, report, steps)
@@ -96,14 +96,18 @@ struct Begun {
     rounds: LiveRounds,
 }
 
-fn begin(alloc: Global, master: Master, out: &Name) -> Result<Begun, NoMemory>
-    ensures { IfOk result (λ begun. begun ≡ record { hls = spec.hls_of out.now master; rounds = spec.no_rounds master }) }
+fn begin(alloc: Global, master: Master, job: &MasterJob) -> Result<Begun, NoMemory>
+    ensures { IfOk result (λ begun. begun ≡ record { hls = spec.hls_of job.now master; rounds = spec.no_rounds master }) }
 {
     let urls = urls_of(alloc, master.tracks().as_slice())?;
-    let name = file_in(alloc, out, "live.mpd")?;
+    let name = file_in(alloc, &job.out, "live.mpd")?;
     let follow = Follow::new(alloc, master)?;
     Ok(Begun {
-        hls: LiveHls { urls, name },
+        hls: LiveHls {
+            urls,
+            form: job.form,
+            name,
+        },
         rounds: LiveRounds {
             follow,
             accepted: 0,

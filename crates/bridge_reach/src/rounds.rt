@@ -17,6 +17,7 @@ use dash_writer::write_live_mpd;
 use hls_media::{Media, read_media, what_is_read_is_bounded};
 use hls_presentation::MediaFiles;
 use iso_time::Instant;
+use segment_forms::Form;
 use std::alloc::Global;
 use url_parts::Base;
 
@@ -28,6 +29,8 @@ pub type BaseList = Sequence<Base>;
 pub struct LiveHls {
     /// The playlists' URLs, by the tracks of the master playlist.
     pub urls: BaseList,
+    /// How the MPD gives the segments of its tracks.
+    pub form: Form,
     /// The file of the MPD.
     pub name: Name,
 }
@@ -85,7 +88,7 @@ impl Follow for LiveHls {
         live: &LiveRounds,
         store: &mut F,
     ) -> Result<(), OutFault> {
-        write_live_mpd(alloc, live.follow.view(), store, &self.name)
+        write_live_mpd(alloc, self.form, live.follow.view(), store, &self.name)
     }
 }
 

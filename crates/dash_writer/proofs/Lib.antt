@@ -1,5 +1,6 @@
 pub mod Escaping
-pub mod LiveTracks
+pub mod Found
+mod LiveTracks
 pub mod Neighbours
 pub mod Nodes
 pub mod Origins

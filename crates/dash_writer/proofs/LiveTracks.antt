@@ -5,6 +5,7 @@ use Rattle.std.specs.{Borrow.Bor, Prelude.{Bool, true, if◌then◌else◌}}
 use Rattle.presentation.proofs.OwnListed.{some_at}
 use Rattle.dash_writer.specs.{declared.live.LiveMpd.LiveMpd, declared.live.LivePeriod.LivePeriod, declared.live.LiveRun.LiveRun}
 use Rattle.dash_writer.specs.{declared.live.LiveSegment.LiveSegment, Live.{HasRun, IsLive, live_list, live_lists, part_of}}
+use Rattle.segment_forms.specs.declared.form.Form.{Form}
 use Rattle.dash_writer.specs.{Segments.segment_url, declared.attribute.Value.Value, Elements.Attribute, Written.{all_told, element_text}}
 use Rattle.dash_writer.specs.Written.{elements_text, is_childless}
 use Rattle.dash_writer.proofs.{Nodes.elements-cons, Progress.next_at}
@@ -18,12 +19,12 @@ has_run mpd live section place below within =
     let run = some_at period.0.runs place (omega (arith, filled, within)) in
     (period.0, run.0, period.1, run.1)
 
--- what it has is a SegmentList
-pub list_of : (mpd : LiveMpd) (section place : ℕ) (has : HasRun mpd section place) → live_lists mpd section place ≡ live_list has.1 ∷ []
-list_of mpd section place has = rw (has.2, has.3) refl
+-- what it has is one element
+pub list_of : (form : Form) (mpd : LiveMpd) (section place : ℕ) (has : HasRun mpd section place) → live_lists form mpd section place ≡ live_list form has.1 ∷ []
+list_of form mpd section place has = rw (has.2, has.3) refl
 
-pub some_run : (mpd : LiveMpd) (section place : ℕ) → HasRun mpd section place → is_childless (live_lists mpd section place) ≡ false
-some_run mpd section place has = rw (list_of mpd section place has) refl
+pub some_run : (form : Form) (mpd : LiveMpd) (section place : ℕ) → HasRun mpd section place → is_childless (live_lists form mpd section place) ≡ false
+some_run form mpd section place has = rw (list_of form mpd section place has) refl
 
 -- the segment at a place, and those behind it
 pub segments_behind : (segments : List LiveSegment) (k : ℕ) (segment : LiveSegment) → k < length segments
@@ -34,12 +35,12 @@ segments_behind segments k segment below is =
     ap (λ segments. elements_text (map segment_url (map part_of segments))) (next_at segments k segment below is)
     ∙ elements-cons (segment_url (part_of segment)) (map segment_url (map part_of (drop (k + 1) segments)))
 
--- the SegmentList of the run that is read in two lists one behind another
-pub list_read : (mpd : LiveMpd) (section place : ℕ) → HasRun mpd section place
+-- the element of the run that is read in two lists one behind another
+pub list_read : (form : Form) (mpd : LiveMpd) (section place : ℕ) → HasRun mpd section place
     → (periods : List LivePeriod) (period : LivePeriod) (runs : List LiveRun) (run : LiveRun) → periods ≡ mpd.periods
     → period ≡ get_or periods section period → runs ≡ period.runs → run ≡ get_or runs place run
-    → live_lists mpd section place ≡ live_list run ∷ []
-list_read mpd section place has periods period runs run are is runs_are run_is =
+    → live_lists form mpd section place ≡ live_list form run ∷ []
+list_read form mpd section place has periods period runs run are is runs_are run_is =
     let read : slice_get mpd.periods section ≡ Some period = slice_get_read mpd.periods (length mpd.periods) section period refl
     (slice_get_within mpd.periods section has.0 has.2) (is ∙ ap (λ xs. get_or xs section period) are) in
     let same : has.0 ≡ period = cc (has.2, read) in

@@ -35,6 +35,9 @@ opening_parts name attributes = ap (λ t. 60 ∷ t ++ attributes) (append-nil na
 pub elements-cons : (x : Element) (xs : List Element) → elements_text (x ∷ xs) ≡ element_text x ++ elements_text xs
 elements-cons x xs = sym (append_assoc (enclosed x.0 x.1 (printed x.1)) (codes "\n") (elements_text xs))
 
+pub one_element : (x : Element) → element_text x ≡ elements_text (x ∷ [])
+one_element x = sym (append-nil (element_text x)) ∙ sym (elements-cons x [])
+
 pub elements-append : (xs ys : List Element) → elements_text (xs ++ ys) ≡ elements_text xs ++ elements_text ys
 elements-append [] ys = refl
 elements-append (x ∷ xs) ys = let text = enclosed x.0 x.1 (printed x.1) in

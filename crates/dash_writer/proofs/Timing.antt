@@ -6,7 +6,8 @@ use Rattle.presentation.specs.Presented.{AreFilled, Presented, content_at, liste
 use Rattle.presentation.proofs.OwnListed.{some_at}
 use Rattle.timeline.specs.{declared.window.Window.Window, Expansions.SegmentTimeline}
 use Rattle.url_parts.specs.declared.address.Part.{Part}
-use Rattle.dash_writer.specs.{declared.timed.TickRun.TickRun, Lists.{list_with, parts_of}, Timed.{lengths, longest, sections_from}}
+use Rattle.dash_writer.specs.{declared.timed.TickRun.TickRun, Forms.segments_with, Lists.parts_of, Timed.{lengths, longest, sections_from}}
+use Rattle.segment_forms.specs.declared.form.Form.{Form}
 use Rattle.dash_writer.specs.{Timed.{timed_list, timed_lists, timed_sections}, Written.is_childless}
 use Rattle.dash_writer.proofs.Origins.{place_within}
 
@@ -41,32 +42,32 @@ length-lengths tracks zero times = refl
 length-lengths tracks (suc n) times = ap suc (length-lengths tracks n (drop tracks times))
 
 -- the list of what stands there
-pub timed_is : (window : Window) (content : Option Content) (runs : SegmentTimeline) (part : Part) (timed : Option TickRun) (run : TickRun)
+pub timed_is : (form : Form) (window : Window) (content : Option Content) (runs : SegmentTimeline) (part : Part) (timed : Option TickRun) (run : TickRun)
     → option_map (λ content. content.runs) content ≡ Some runs → option_map (λ content. content.initialization) content ≡ Some part
     → timed ≡ Some run
-    → option_to_list (option_and_then (λ content. option_map (timed_list window content) timed) content)
-    ≡ list_with run.scale (Some run.first) run.first part run.durations (parts_of runs (listed_in window runs)) ∷ []
-timed_is window None runs part timed run is is_part is_timed = absurd (cc)
-timed_is window (Some content) runs part timed run is is_part is_timed = let same : content.runs ≡ runs = cc in
+    → option_to_list (option_and_then (λ content. option_map (timed_list form window content) timed) content)
+    ≡ segments_with form run.scale (Some run.offset) run.first part run.durations (parts_of runs (listed_in window runs)) ∷ []
+timed_is form window None runs part timed run is is_part is_timed = absurd (cc)
+timed_is form window (Some content) runs part timed run is is_part is_timed = let same : content.runs ≡ runs = cc in
     let same_part : content.initialization ≡ part = cc in
-    rw is_timed (ap (λ r. list_with run.scale (Some run.first) run.first content.initialization run.durations (parts_of r
+    rw is_timed (ap (λ r. segments_with form run.scale (Some run.offset) run.first content.initialization run.durations (parts_of r
     (listed_in window r)) ∷ []) same
-    ∙ ap (λ i. list_with run.scale (Some run.first) run.first i run.durations (parts_of runs (listed_in window runs)) ∷ []) same_part)
+    ∙ ap (λ i. segments_with form run.scale (Some run.offset) run.first i run.durations (parts_of runs (listed_in window runs)) ∷ []) same_part)
 
-pub some_timed : (window : Window) (content : Option Content) (c : Content) (timed : Option TickRun) (run : TickRun) → content ≡ Some c
+pub some_timed : (form : Form) (window : Window) (content : Option Content) (c : Content) (timed : Option TickRun) (run : TickRun) → content ≡ Some c
     → timed ≡ Some run
-    → is_childless (option_to_list (option_and_then (λ content. option_map (timed_list window content) timed) content)) ≡ false
-some_timed window content c timed run is is_timed = rw (is, is_timed) refl
+    → is_childless (option_to_list (option_and_then (λ content. option_map (timed_list form window content) timed) content)) ≡ false
+some_timed form window content c timed run is is_timed = rw (is, is_timed) refl
 
 -- each track has something in each section
-pub some_timed_list : (p : Presented) (times : List TickRun) (section track : ℕ)
+pub some_timed_list : (form : Form) (p : Presented) (times : List TickRun) (section track : ℕ)
     → AreFilled (length p.sections) (length p.tracks) (length p.contents) → AreFilled (length p.sections) (length p.tracks) (length times)
-    → section < length p.sections → track < length p.tracks → is_childless (timed_lists p times section track) ≡ false
-some_timed_list p times section track filled timed in_sections in_tracks =
+    → section < length p.sections → track < length p.tracks → is_childless (timed_lists form p times section track) ≡ false
+some_timed_list form p times section track filled timed in_sections in_tracks =
     let place = section * length p.tracks + track in let sections = length p.sections in let tracks = length p.tracks in
     let content = some_at p.contents place (place_within section sections tracks track (length p.contents) filled in_sections in_tracks) in
     let run = some_at times place (place_within section sections tracks track (length times) timed in_sections in_tracks) in
-    some_timed (window_of p section) (content_at p section track) content.0 (slice_get times place) run.0 content.1 run.1
+    some_timed form (window_of p section) (content_at p section track) content.0 (slice_get times place) run.0 content.1 run.1
 
 pub length_timed : (p : Presented) (times : List TickRun) → length (timed_sections p times) ≡ length p.sections
 length_timed p times = length-sections 0 (lengths (length p.tracks) (length p.sections) times)

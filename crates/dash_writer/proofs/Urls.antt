@@ -1,33 +1,25 @@
 -- The segments of a listing one after another.
-use Rattle.std.proofs.{Common.{◌≡◌, List, [], ◌∷◌, ◌++◌, map, codes, All, None, refl, ap, ◌∙◌}, lemmas.List.Elements.All-tail}
-use Rattle.url_parts.specs.declared.address.Part.{Part}
-use Rattle.timeline.specs.{Expansions.{SegmentTimeline, Timing}, Listed.{IsDone, IsMade, Made, Rest, part_of_timing}}
+use Rattle.std.proofs.{Common.{◌≡◌, List, [], ◌∷◌, ◌++◌, map, All, Option, Some, None, true, false, refl, ap, ◌∙◌}, lemmas.List.Elements.All-tail}
+use Rattle.std.specs.{List.list_all, Prelude.{is_none, is_some}}
+use Rattle.url_parts.specs.{declared.address.Part.Part, declared.range.Range.Range}
+use Rattle.timeline.specs.Listed.{IsDone, IsMade, Made, Rest}
 use Rattle.presentation.specs.Laws.{HasAddress}
-use Rattle.dash_writer.specs.{Elements.{Element, node}, Lists.{list_with, parts_of, timeline_with}, Segments.{duration_of, initialization}}
-use Rattle.dash_writer.specs.{Segments.{list_attributes, part_or_none, segment_list, segment_url, segment_urls}, Written.element_text}
-use Rattle.dash_writer.specs.Written.{elements_text}
+use Rattle.dash_writer.specs.{Elements.Element, Forms.is_whole, Lists.parts_of, Segments.segment_url, Written.{element_text, elements_text}}
 use Rattle.dash_writer.proofs.Nodes.{elements-cons}
 
--- segments with their own times are listed as any others
-files_of : (timeline : SegmentTimeline) (listed : List Timing) → map segment_url (parts_of timeline listed) ≡ segment_urls timeline listed
-files_of timeline [] = refl
-files_of timeline (x ∷ xs) = ap (λ urls. segment_url (part_or_none (part_of_timing timeline x)) ∷ urls) (files_of timeline xs)
-
-pub with_own_times : (timeline : SegmentTimeline) (part : Part) (listed : List Timing)
-    → list_with timeline.ticks None 0 part (map duration_of listed) (parts_of timeline listed) ≡ segment_list timeline part listed
-with_own_times timeline part listed =
-    ap (λ urls. node (codes "SegmentList") (list_attributes timeline) (initialization part ∷ timeline_with 0
-    (map duration_of listed) ∷ urls)) (files_of timeline listed)
+abbrev pub parts_left : Rest → List Part
+parts_left rest = parts_of rest.timeline rest.left
 
 abbrev pub urls_left : Rest → List Element
-urls_left rest = map segment_url (parts_of rest.timeline rest.left)
+urls_left rest = map segment_url (parts_left rest)
 
-first_url : (old new : Rest) (made : Made) → IsMade old made new → urls_left old ≡ segment_url made.part ∷ urls_left new
-first_url old new made next = rw (next.next, next.part, next.timeline) refl
+pub first_part : (old new : Rest) (made : Made) → IsMade old made new → parts_left old ≡ made.part ∷ parts_left new
+first_part old new made next = rw (next.next, next.part, next.timeline) refl
 
 pub next_url : (old new : Rest) (made : Made) → IsMade old made new
     → elements_text (urls_left old) ≡ element_text (segment_url made.part) ++ elements_text (urls_left new)
-next_url old new made next = ap elements_text (first_url old new made next) ∙ elements-cons (segment_url made.part) (urls_left new)
+next_url old new made next = ap (λ parts. elements_text (map segment_url parts)) (first_part old new made next)
+    ∙ elements-cons (segment_url made.part) (urls_left new)
 
 pub no_url : (old new : Rest) → IsDone old new → elements_text (urls_left old) ≡ []
 no_url old new done = rw done.none refl
@@ -35,3 +27,12 @@ no_url old new done = rw done.none refl
 pub still_addressed : (old new : Rest) (made : Made) → IsMade old made new → All (HasAddress old.timeline) old.left
     → All (HasAddress new.timeline) new.left
 still_addressed old new made next all = rw next.timeline (All-tail (HasAddress old.timeline) made.times new.left (rw next.next at all))
+
+no_range : (range : Option Range) → is_some range ≡ false → is_none range ≡ true
+no_range None none = refl
+no_range (Some range) none = absurd (cc)
+
+-- a first file that isn't a byte range
+pub first_whole : (part : Part) (parts : List Part) → is_some part.range ≡ false
+    → list_all is_whole (part ∷ parts) ≡ list_all is_whole parts
+first_whole part parts none = rw (no_range part.range none) refl

@@ -1,5 +1,6 @@
 pub mod Elements
 pub mod Escaped
+pub mod Forms
 pub mod Given
 pub mod Lists
 pub mod Live

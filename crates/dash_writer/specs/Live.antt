@@ -4,7 +4,8 @@ use Rattle.std.specs.Prelude.{option_map, option_and_then, option_to_list, if◌
 use Rattle.iso_time.specs.{Civil.instant_text, Duration.duration_text, Instant.IsWritable}
 use Rattle.url_parts.specs.declared.address.Part.{Part}
 use Rattle.dash_writer.specs.{declared.live.LiveMpd.LiveMpd, declared.live.LivePeriod.LivePeriod, declared.live.LiveRun.LiveRun}
-use Rattle.dash_writer.specs.{declared.live.LiveSegment.LiveSegment, Elements.{Attribute, Element}, Lists.list_with, Manifest.finished_root}
+use Rattle.dash_writer.specs.{declared.live.LiveSegment.LiveSegment, Elements.{Attribute, Element}, Forms.segments_with, Manifest.finished_root}
+use Rattle.segment_forms.specs.declared.form.Form.{Form}
 use Rattle.dash_writer.specs.{Outline.{Outline, heads_from, outline_text}, Values.seconds_text}
 
 -- ---- the root
@@ -51,28 +52,28 @@ abbrev pub part_of : LiveSegment → Part
 part_of segment = record { address = segment.address; range = segment.range }
 
 -- in nanoseconds relative to the Period's start
-abbrev pub live_list : LiveRun → Element
-live_list run = list_with (10 ^ 9) None (first_time run.segments) run.initialization
+abbrev pub live_list : Form → LiveRun → Element
+live_list form run = segments_with form (10 ^ 9) None (first_time run.segments) run.initialization
     (map (λ (segment : LiveSegment). segment.duration) run.segments) (map part_of run.segments)
 
-abbrev pub live_lists : LiveMpd → (section place : ℕ) → List Element
-live_lists mpd section place = option_to_list (option_and_then
-    (λ (period : LivePeriod). option_map live_list (slice_get period.runs place))
+abbrev pub live_lists : Form → LiveMpd → (section place : ℕ) → List Element
+live_lists form mpd section place = option_to_list (option_and_then
+    (λ (period : LivePeriod). option_map (live_list form) (slice_get period.runs place))
     (slice_get mpd.periods section))
 
 -- ---- the whole
 
-abbrev pub live_outline : LiveMpd → Outline
-live_outline mpd = record {
+abbrev pub live_outline : Form → LiveMpd → Outline
+live_outline form mpd = record {
   root = live_root mpd;
   periods = heads_from live_period 0 mpd.periods;
   tracks = mpd.tracks;
   lists =
-      live_lists mpd;
+      live_lists form mpd;
 }
 
-unfoldable pub live_text : LiveMpd → List ℕ
-live_text mpd = outline_text (live_outline mpd)
+unfoldable pub live_text : Form → LiveMpd → List ℕ
+live_text form mpd = outline_text (live_outline form mpd)
 
 -- the years of its timestamps are 1000 to 9999, and each track has a run in each Period
 pub record IsLive (mpd : LiveMpd) : Type 0 where

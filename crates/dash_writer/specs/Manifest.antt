@@ -6,14 +6,15 @@ use Rattle.presentation.specs.{Origins.CameFromPlaylists, declared.track.Section
 use Rattle.presentation.specs.Presented.{content_at, listed_in, window_of}
 use Rattle.dash_writer.specs.{Elements.{Attribute, Element}, Outline.{Outline, heads_from, outline_text, period_element, period_elements}}
 use Rattle.dash_writer.specs.Outline.{root_element, set_element, set_elements, sets_of, track_element, track_elements}
-use Rattle.dash_writer.specs.Segments.{segment_list}
+use Rattle.segment_forms.specs.declared.form.Form.{Form}
+use Rattle.dash_writer.specs.Forms.{own_segments}
 
 -- ---- tracks (5.3.3 and 5.3.5)
 
 -- the content of a track in a section
-abbrev pub segment_lists : Presented → (section place : ℕ) → List Element
-segment_lists p section place = option_to_list (option_map
-    (λ content. segment_list content.runs content.initialization (listed_in (window_of p section) content.runs))
+abbrev pub segment_lists : Form → Presented → (section place : ℕ) → List Element
+segment_lists form p section place = option_to_list (option_map
+    (λ content. own_segments form content.runs content.initialization (listed_in (window_of p section) content.runs))
     (content_at p section place))
 
 -- the segments of a track in a section can be listed
@@ -23,24 +24,24 @@ pub record CanBeListed (p : Presented) (section place : ℕ) : Type 0 where
   pub in_tracks : place < length p.tracks
 
 -- Representation: the track at an index
-abbrev pub representation : Presented → (section place : ℕ) → Track → Element
-representation p section place track = track_element (segment_lists p section) place track
+abbrev pub representation : Form → Presented → (section place : ℕ) → Track → Element
+representation form p section place track = track_element (segment_lists form p section) place track
 
 -- the tracks from an index on
-abbrev pub representations : Presented → (section place : ℕ) → List Track → List Element
-representations p section place tracks = track_elements (segment_lists p section) place tracks
+abbrev pub representations : Form → Presented → (section place : ℕ) → List Track → List Element
+representations form p section place tracks = track_elements (segment_lists form p section) place tracks
 
 -- AdaptationSet: tracks that belong together, from an index on; there is none without a track
-abbrev pub adaptation_set : Presented → (section place : ℕ) → List Track → List Element
-adaptation_set p section place tracks = set_element (segment_lists p section) place tracks
+abbrev pub adaptation_set : Form → Presented → (section place : ℕ) → List Track → List Element
+adaptation_set form p section place tracks = set_element (segment_lists form p section) place tracks
 
-abbrev pub adaptation_sets : Presented → (section place : ℕ) → List (List Track) → List Element
-adaptation_sets p section place sets = set_elements (segment_lists p section) place sets
+abbrev pub adaptation_sets : Form → Presented → (section place : ℕ) → List (List Track) → List Element
+adaptation_sets form p section place sets = set_elements (segment_lists form p section) place sets
 
 -- ---- sections (5.3.2), and the whole (5.3.1)
 
-abbrev pub all_sets : Presented → (section : ℕ) → List Element
-all_sets p section = sets_of (segment_lists p section) p.tracks
+abbrev pub all_sets : Form → Presented → (section : ℕ) → List Element
+all_sets form p section = sets_of (segment_lists form p section) p.tracks
 
 abbrev pub period_attributes : (place : ℕ) → Section → List Attribute
 period_attributes place section =
@@ -75,26 +76,26 @@ abbrev pub root_attributes : List Section → List Attribute
 root_attributes sections = finished_root (last_end sections)
 
 -- the outline of a presentation's MPD
-abbrev pub outline_of : Presented → Outline
-outline_of p = record {
+abbrev pub outline_of : Form → Presented → Outline
+outline_of form p = record {
   root = root_attributes p.sections;
   periods = all_period_attributes 0 p.sections;
   tracks = p.tracks;
-  lists = segment_lists p;
+  lists = segment_lists form p;
 }
 
 -- Period: the section at an index
-abbrev pub period : Presented → (place : ℕ) → Section → Element
-period p place section = period_element (outline_of p) place (period_attributes place section)
+abbrev pub period : Form → Presented → (place : ℕ) → Section → Element
+period form p place section = period_element (outline_of form p) place (period_attributes place section)
 
 -- the sections from an index on
-abbrev pub periods : Presented → (place : ℕ) → List Section → List Element
-periods p place sections = period_elements (outline_of p) place (all_period_attributes place sections)
+abbrev pub periods : Form → Presented → (place : ℕ) → List Section → List Element
+periods form p place sections = period_elements (outline_of form p) place (all_period_attributes place sections)
 
 -- MPD
-abbrev pub root_of : Presented → Element
-root_of p = root_element (outline_of p)
+abbrev pub root_of : Form → Presented → Element
+root_of form p = root_element (outline_of form p)
 
 -- the text of a presentation's MPD
-unfoldable pub manifest_text : Presented → List ℕ
-manifest_text p = outline_text (outline_of p)
+unfoldable pub manifest_text : Form → Presented → List ℕ
+manifest_text form p = outline_text (outline_of form p)

@@ -1,5 +1,5 @@
 -- The segments of a Representation as they are listed (ISO/IEC 23009-1, 5.3.9).
-use Rattle.std.specs.Prelude.{ℕ, ◌==◌, ◌-ℤ◌, Bool, List, [], ◌∷◌, ◌++◌, length, map, codes, decimal, Option, Some, None, option_map}
+use Rattle.std.specs.Prelude.{ℕ, ◌==◌, ◌&&◌, ◌-ℤ◌, Bool, List, [], ◌∷◌, ◌++◌, length, map, codes, decimal, Option, Some, None, option_map}
 use Rattle.std.specs.Prelude.{if◌then◌else◌, Result, Ok, Err}
 use Rattle.url_parts.specs.declared.address.Part.{Part}
 use Rattle.timeline.specs.{declared.fault.ListFault.ListFault, Expansions.{SegmentTimeline, Timing}, Listed.part_of_timing, Ratios.natural}
@@ -31,8 +31,9 @@ duration_of x = natural (x.end.ticks -ℤ x.start.ticks)
 abbrev pub same_duration : ℕ → ℕ → Bool
 same_duration one other = one == other
 
-abbrev pub timeline_elements : List ℕ → List Element
-timeline_elements durations = s_elements (Some 0) (longest_runs same_duration durations)
+-- whether two neighbours share an S, where segments are joined at all
+abbrev pub joins : (joined : Bool) → ℕ → ℕ → Bool
+joins joined one other = joined && same_duration one other
 
 -- the part of a segment that has a URL
 abbrev pub part_or_none : Result Part ListFault → Part
@@ -44,23 +45,7 @@ abbrev pub segment_url : Part → Element
 segment_url part = leaf (codes "SegmentURL") ((codes "media", Some part.address) ∷ (codes "mediaRange", option_map range_text part.range)
     ∷ [])
 
-abbrev pub segment_urls : SegmentTimeline → List Timing → List Element
-segment_urls timeline listed = map (λ x. segment_url (part_or_none (part_of_timing timeline x))) listed
-
 -- Initialization (5.3.9.2.2)
 abbrev pub initialization : Part → Element
 initialization part = leaf (codes "Initialization") ((codes "sourceURL", Some part.address)
     ∷ (codes "range", option_map range_text part.range) ∷ [])
-
--- the content of a SegmentList
-abbrev pub list_contents : SegmentTimeline → Part → List Timing → List Element
-list_contents timeline part listed =
-    initialization part ∷ node (codes "SegmentTimeline") [] (timeline_elements (map duration_of listed)) ∷ segment_urls timeline listed
-
-abbrev pub list_attributes : SegmentTimeline → List Attribute
-list_attributes timeline = (codes "timescale", Some (decimal timeline.ticks)) ∷ []
-
--- SegmentList (5.3.9.3)
-abbrev pub segment_list : SegmentTimeline → Part → List Timing → Element
-segment_list timeline part listed =
-    node (codes "SegmentList") (list_attributes timeline) (list_contents timeline part listed)

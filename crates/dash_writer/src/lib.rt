@@ -10,6 +10,7 @@ mod manifest;
 mod outline;
 mod segments;
 mod sets;
+mod template;
 mod timed;
 mod times;
 
@@ -19,4 +20,5 @@ pub use live::{
     write_live_mpd,
 };
 pub use manifest::write_mpd;
+pub use segment_forms::Form;
 pub use timed::{TickList, TickRun, TickSeq, write_mpd_timed};

@@ -6,24 +6,32 @@ ghost use Rattle.timeline.specs.Listed.{IsDone, IsMade};
 ghost use Rattle.presentation.specs.Laws.{HasAddress};
 ghost use Rattle.presentation.specs.Origins.{IsAddressed};
 ghost use Rattle.presentation.specs.Presented.{listed_in};
+ghost use Rattle.dash_writer.specs.Forms.{own_segments, segments_with};
+ghost use Rattle.dash_writer.specs.Lists.{parts_of};
 ghost use Rattle.dash_writer.specs.Manifest.{CanBeListed, segment_lists};
-ghost use Rattle.dash_writer.specs.Segments.{segment_list};
-ghost use Rattle.dash_writer.specs.Lists.{list_with, parts_of};
 ghost use Rattle.dash_writer.specs.Written.{element_text};
 
-use crate::segments::{Files, ListHead, push_segment_list, push_url};
+use crate::segments::{Files, ListHead, push_segments, push_url};
 use crate::sets::TrackLists;
 use crate::times::Durations;
 use bridge_io::{Fail, Ledger, Sheet, Steps, Store};
 use presentation::Presentation;
+use segment_forms::{Form, PatternFinder};
 use std::alloc::Global;
 use timeline::{ListFault, Listing, Runs, Segment, Window};
 use url_parts::Part;
 
-impl<L: Ledger> TrackLists<Steps<L>> for Presentation {
-    ghost lists = { segment_lists };
+/// The contents of the tracks of a presentation in its sections, in a form.
+#[derive(Clone, Copy)]
+pub(crate) struct OwnLists<'a> {
+    pub(crate) form: Form,
+    pub(crate) presentation: &'a Presentation,
+}
 
-    ghost can_list = { CanBeListed };
+impl<L: Ledger> TrackLists<Steps<L>> for OwnLists<'_> {
+    ghost lists = { λ lists. segment_lists lists.form lists.presentation.now };
+
+    ghost can_list = { λ lists. CanBeListed lists.presentation.now };
 
     fn push_list<F: Store>(
         &self,
@@ -33,53 +41,83 @@ impl<L: Ledger> TrackLists<Steps<L>> for Presentation {
         sheet: &mut Sheet<F>,
         steps: &mut Steps<L>,
     ) -> Result<(), Fail> {
-        let runs = self.runs(section, track);
-        let part = self.initialization(section, track);
-        let window = self.window(section);
-        push_own(alloc, runs, part, &window, sheet, steps)
+        let presentation = self.presentation;
+        let listed = Listed {
+            form: self.form,
+            runs: presentation.runs(section, track),
+            window: presentation.window(section),
+        };
+        let part = presentation.initialization(section, track);
+        listed.push_own(alloc, part, sheet, steps)
     }
 }
 
-/// Writes the SegmentList of the listed segments in a window, with their own durations.
-fn push_own<F: Store, L: Ledger>(
-    alloc: Global,
-    runs: &Runs,
-    part: &Part,
-    window: &Window,
-    sheet: &mut Sheet<F>,
-    steps: &mut Steps<L>,
-) -> Result<(), Fail>
-    requires { IsAddressed runs.now }
-    ensures { Adds F.Store (element_text (segment_list runs.now part.now (listed_in window.now runs.now))) sheet.old sheet.new result }
-{
-    let _ = runs.count(window).unwrap_or(0); // which fits a number
-    let head = ListHead {
-        ticks: u64::from(runs.offset().scale),
-        offset: None,
-        first: 0,
-        initialization: part,
-    };
-    let mut walk = runs.walk(&runs.seek(window), window);
-    push_listed(alloc, &head, &mut walk, runs, window, sheet, steps)
+/// The segments of a track in a section that a window lists, in a form.
+#[derive(Clone, Copy)]
+pub(crate) struct Listed<'a> {
+    pub(crate) form: Form,
+    pub(crate) runs: &'a Runs,
+    pub(crate) window: Window,
 }
 
-/// Writes the SegmentList of the listed segments in a window, with these durations.
-pub(crate) fn push_listed<D: Durations, F: Store, L: Ledger>(
-    alloc: Global,
-    head: &ListHead<'_>,
-    durations: &mut D,
-    runs: &Runs,
-    window: &Window,
-    sheet: &mut Sheet<F>,
-    steps: &mut Steps<L>,
-) -> Result<(), Fail>
-    requires few { length (D.durations durations.old) < 2 ^ 64 }
-    requires addressed { IsAddressed runs.now }
-    ensures { Adds F.Store (element_text (list_with head.now.ticks head.now.offset head.now.first head.now.initialization.now
-        (D.durations durations.old) (parts_of runs.now (listed_in window.now runs.now)))) sheet.old sheet.new result }
-{
-    let mut listing = runs.resume(&runs.seek(window), window);
-    push_segment_list(alloc, head, durations, &mut listing, sheet, steps)
+impl Listed<'_> {
+    /// Writes them with their own durations.
+    fn push_own<F: Store, L: Ledger>(
+        &self,
+        alloc: Global,
+        part: &Part,
+        sheet: &mut Sheet<F>,
+        steps: &mut Steps<L>,
+    ) -> Result<(), Fail>
+        requires { IsAddressed self.now.runs.now }
+        ensures { Adds F.Store (element_text (own_segments self.now.form self.now.runs.now part.now
+            (listed_in self.now.window self.now.runs.now))) sheet.old sheet.new result }
+    {
+        let runs = self.runs;
+        let window = &self.window;
+        let _ = runs.count(window).unwrap_or(0); // which fits a number
+        let head = ListHead {
+            ticks: u64::from(runs.offset().scale),
+            offset: None,
+            first: 0,
+            initialization: part,
+        };
+        let mut walk = runs.walk(&runs.seek(window), window);
+        self.push(alloc, &head, &mut walk, sheet, steps)
+    }
+
+    /// Writes them with these durations.
+    pub(crate) fn push<D: Durations, F: Store, L: Ledger>(
+        &self,
+        alloc: Global,
+        head: &ListHead<'_>,
+        durations: &mut D,
+        sheet: &mut Sheet<F>,
+        steps: &mut Steps<L>,
+    ) -> Result<(), Fail>
+        requires few { length (D.durations durations.old) < 2 ^ 64 }
+        requires addressed { IsAddressed self.now.runs.now }
+        ensures { Adds F.Store (element_text (segments_with self.now.form head.now.ticks head.now.offset head.now.first
+            head.now.initialization.now (D.durations durations.old)
+            (parts_of self.now.runs.now (listed_in self.now.window self.now.runs.now)))) sheet.old sheet.new result }
+    {
+        let mut files = self.listing();
+        let mut again = self.listing();
+        let form = self.form;
+        push_segments(
+            alloc, form, head, durations, &mut files, &mut again, sheet, steps,
+        )
+    }
+
+    /// The segments one after another.
+    fn listing(&self) -> Listing<'_>
+        requires { IsAddressed self.now.runs.now }
+        ensures timeline { result.timeline ≡ self.now.runs.now }
+        ensures left { result.left ≡ listed_in self.now.window self.now.runs.now }
+    {
+        let runs = self.runs;
+        runs.resume(&runs.seek(&self.window), &self.window)
+    }
 }
 
 impl<L: Ledger> Files<Steps<L>> for Listing<'_> {
@@ -97,6 +135,21 @@ impl<L: Ledger> Files<Steps<L>> for Listing<'_> {
             push_url(segment.address().as_str(), segment.range(), sheet)?;
         }
         Ok(())
+    }
+
+    fn push_addresses(
+        &mut self,
+        alloc: Global,
+        finder: &mut PatternFinder,
+        steps: &mut Steps<L>,
+    ) -> Result<bool, Fail> {
+        while let Some(segment) = next_segment(alloc, self, steps)? {
+            if segment.range().is_some() {
+                return Ok(false);
+            }
+            finder.push(segment.address().as_str())?;
+        }
+        Ok(true)
     }
 }
 

@@ -11,13 +11,14 @@ ghost use Rattle.dash_writer.specs.Written.{all_told, element_text};
 use crate::attribute::{Attribute, Value};
 use crate::manifest::finished_root;
 use crate::outline::{Outline, Period};
-use crate::segments::{Files, ListHead, push_segment_list, push_url};
+use crate::segments::{Files, ListHead, push_segments, push_url};
 use crate::sets::TrackLists;
 use crate::times::Durations;
 use bridge_io::{Fail, Name, OutFault, Sequence, Sheet, Store};
 use exact_time::Nanos;
 use iso_time::{Instant, write_instant_ms};
 use presentation::TrackList;
+use segment_forms::{Form, PatternFinder};
 use std::alloc::Global;
 use url_parts::{Address, Part, Range};
 
@@ -84,7 +85,8 @@ pub type LiveSegmentList = Sequence<LiveSegment>;
 
 /// Writes the MPD of a live presentation (ISO/IEC 23009-1, 5.3): until the presentation has ended a dynamic one with
 /// `@publishTime` and `@minimumUpdatePeriod`, and then a static one that lasts until the last Period's longest track ends. A
-/// Period has its number and its start, and times are nanoseconds; the first S has the time of the first listed segment.
+/// Period has its number and its start, and times are nanoseconds; the first S has the time of the first listed segment. Each
+/// track is written in the form, as by [`write_mpd`](crate::write_mpd).
 ///
 /// Requires that the years of the timestamps are 1000 to 9999, and that each track has a run in each Period. The text has the
 /// segments' times where each one begins when the one before it ends.
@@ -93,14 +95,15 @@ pub type LiveSegmentList = Sequence<LiveSegment>;
 /// count of failed writes rose.
 pub fn write_live_mpd<F: Store>(
     alloc: Global,
+    form: Form,
     mpd: &LiveMpd,
     store: &mut F,
     name: &Name,
 ) -> Result<(), OutFault>
     requires { spec.IsLive mpd.now }
-    ensures ok { OnOk result (Changes (put name.now (spec.live_text mpd.now)) (F.files store.old) (F.files store.new)) }
+    ensures ok { OnOk result (Changes (put name.now (spec.live_text form mpd.now)) (F.files store.old) (F.files store.new)) }
     ensures err { OnErr result ((F.files store.new ≡ F.files store.old)
-        ⊎ HasFront name.now (spec.live_text mpd.now) (F.files store.old) (F.files store.new)) }
+        ⊎ HasFront name.now (spec.live_text form mpd.now) (F.files store.old) (F.files store.new)) }
     ensures cause { HasCause WriteFault (F.write_faults store.old) (F.write_faults store.new) result }
     ensures reads { F.read_faults store.new ≡ F.read_faults store.old }
 {
@@ -109,11 +112,12 @@ pub fn write_live_mpd<F: Store>(
     let published = write_instant_ms(mpd.published);
     let finished = finished_root(last_end(periods));
     let growing = growing_root(&start, &published, mpd.target);
+    let lists = LiveLists { form, mpd };
     let outline = Outline {
         root: one_of(mpd.ended, &finished, &growing),
         periods,
         tracks: mpd.tracks.as_slice(),
-        lists: mpd,
+        lists: &lists,
     };
     outline.write(alloc, store, name, &mut ())
 }
@@ -169,10 +173,17 @@ impl Period for LivePeriod {
     }
 }
 
-impl TrackLists<()> for LiveMpd {
-    ghost lists = { spec.live_lists };
+/// The contents of the tracks in the Periods, in a form.
+#[derive(Clone, Copy)]
+struct LiveLists<'a> {
+    form: Form,
+    mpd: &'a LiveMpd,
+}
 
-    ghost can_list = { spec.HasRun };
+impl TrackLists<()> for LiveLists<'_> {
+    ghost lists = { λ lists. spec.live_lists lists.form lists.mpd.now };
+
+    ghost can_list = { λ lists. spec.HasRun lists.mpd.now };
 
     fn push_list<F: Store>(
         &self,
@@ -182,19 +193,20 @@ impl TrackLists<()> for LiveMpd {
         sheet: &mut Sheet<F>,
         steps: &mut (),
     ) -> Result<(), Fail> {
-        let run = &self.periods.as_slice()[section].runs.as_slice()[track];
-        push_run(alloc, run, sheet, steps)
+        let run = &self.mpd.periods.as_slice()[section].runs.as_slice()[track];
+        push_run(alloc, self.form, run, sheet, steps)
     }
 }
 
-/// Writes the SegmentList of a track in a Period.
+/// Writes the segments of a track in a Period.
 fn push_run<F: Store>(
     alloc: Global,
+    form: Form,
     run: &LiveRun,
     sheet: &mut Sheet<F>,
     steps: &mut (),
 ) -> Result<(), Fail>
-    ensures { Adds F.Store (element_text (spec.live_list run.now)) sheet.old sheet.new result }
+    ensures { Adds F.Store (element_text (spec.live_list form run.now)) sheet.old sheet.new result }
 {
     let segments = run.segments.as_slice();
     let head = ListHead {
@@ -205,7 +217,17 @@ fn push_run<F: Store>(
     };
     let mut durations = LiveSegments { left: segments };
     let mut files = LiveSegments { left: segments };
-    push_segment_list(alloc, &head, &mut durations, &mut files, sheet, steps)
+    let mut again = LiveSegments { left: segments };
+    push_segments(
+        alloc,
+        form,
+        &head,
+        &mut durations,
+        &mut files,
+        &mut again,
+        sheet,
+        steps,
+    )
 }
 
 /// When the first segment begins.
@@ -249,5 +271,20 @@ impl Files<()> for LiveSegments<'_> {
             push_url(segment.address.as_str(), segment.range, sheet)?;
         }
         Ok(())
+    }
+
+    fn push_addresses(
+        &mut self,
+        _alloc: Global,
+        finder: &mut PatternFinder,
+        _steps: &mut (),
+    ) -> Result<bool, Fail> {
+        for segment in self.left {
+            if segment.range.is_some() {
+                return Ok(false);
+            }
+            finder.push(segment.address.as_str())?;
+        }
+        Ok(true)
     }
 }

@@ -10,16 +10,19 @@ ghost use Rattle.dash_writer.specs.Manifest as spec;
 ghost use Rattle.dash_writer.specs.Written.{all_told, value_text};
 
 use crate::attribute::{Attribute, Value};
+use crate::listed::OwnLists;
 use crate::outline::{Outline, Period};
 use bridge_io::{Ledger, Name, OutFault, Steps, Store};
 use exact_time::Nanos;
 use presentation::{Presentation, Section};
+use segment_forms::Form;
 use std::alloc::Global;
 
 /// Writes the MPD of a presentation that came from playlists (ISO/IEC 23009-1, 5.3): a Period for each section; in it an
-/// AdaptationSet for all video tracks, for each audio set and for each text set; in these a Representation `t<k>` for track k,
-/// with a SegmentList whose SegmentTimeline has one S for each longest run of equal durations. Media time begins at 0 in each
-/// Period. Values are escaped (XML 1.0, 2.4), and each tag is on its own line.
+/// AdaptationSet for all video tracks, for each audio set and for each text set; in these a Representation `t<k>` for track k.
+/// In the plain form it has a SegmentList whose SegmentTimeline has one S for each longest run of equal durations. For players it
+/// has a SegmentTemplate with `$Number$` where the files of the track in the Period have a pattern, and otherwise a SegmentList
+/// with an S for each segment. Media time begins at 0 in each Period. Values are escaped (XML 1.0, 2.4), and each tag is on its own line.
 ///
 /// Language, codecs, width, height and frame rate are written where they are known, and a frame rate of 0 is omitted.
 ///
@@ -29,25 +32,27 @@ use std::alloc::Global;
 /// count of failed writes rose.
 pub fn write_mpd<F: Store, L: Ledger>(
     alloc: Global,
+    form: Form,
     presentation: &Presentation,
     store: &mut F,
     name: &Name,
     steps: &mut Steps<L>,
 ) -> Result<(), OutFault>
     requires { CameFromPlaylists presentation.now }
-    ensures ok { OnOk result (Changes (put name.now (spec.manifest_text presentation.now)) (F.files store.old) (F.files store.new)) }
+    ensures ok { OnOk result (Changes (put name.now (spec.manifest_text form presentation.now)) (F.files store.old) (F.files store.new)) }
     ensures err { OnErr result ((F.files store.new ≡ F.files store.old)
-        ⊎ HasFront name.now (spec.manifest_text presentation.now) (F.files store.old) (F.files store.new)) }
+        ⊎ HasFront name.now (spec.manifest_text form presentation.now) (F.files store.old) (F.files store.new)) }
     ensures cause { HasCause WriteFault (F.write_faults store.old) (F.write_faults store.new) result }
     ensures reads { F.read_faults store.new ≡ F.read_faults store.old }
 {
     let sections = presentation.sections().as_slice();
     let root = finished_root(last_end(sections));
+    let lists = OwnLists { form, presentation };
     let outline = Outline {
         root: &root,
         periods: sections,
         tracks: presentation.tracks().as_slice(),
-        lists: presentation,
+        lists: &lists,
     };
     outline.write(alloc, store, name, steps)
 }

@@ -1,7 +1,9 @@
 // SegmentLists.
-ghost use Rattle.std.specs.Prelude.{◌≡◌, ◌<◌, ◌^◌, ℕ, List, length, map, option_map};
-ghost use Rattle.bridge_io.specs.Adding.{Adds};
+ghost use Rattle.std.specs.Prelude.{◌≡◌, ◌++◌, ◌<◌, ◌^◌, ℕ, List, length, map, option_map, IfOk, IsTrue, MatchResult};
+ghost use Rattle.std.specs.List.{list_all};
+ghost use Rattle.bridge_io.specs.{Adding.Adds, declared.outside.Fail.TheVariants.Memory};
 ghost use Rattle.url_parts.specs.declared.address.Part.{Part};
+ghost use Rattle.dash_writer.specs.Forms.{addresses_of, is_whole, segments_with};
 ghost use Rattle.dash_writer.specs.Lists as lists;
 ghost use Rattle.dash_writer.specs.Segments as spec;
 ghost use Rattle.dash_writer.specs.Values.{range_text};
@@ -9,8 +11,10 @@ ghost use Rattle.dash_writer.specs.Written.{all_told, element_text, elements_tex
 
 use crate::attribute::{Attribute, Value};
 use crate::element::{push_end, push_leaf, push_start};
+use crate::template::{push_template, template_of};
 use crate::times::{Durations, number, push_timeline};
 use bridge_io::{Fail, Sheet, Store};
+use segment_forms::{Form, PatternFinder};
 use std::alloc::Global;
 use url_parts::{Part, Range};
 
@@ -31,9 +35,20 @@ pub(crate) trait Files<S> {
     ) -> Result<(), Fail>
         requires { can_push self.old }
         ensures { Adds F.Store (elements_text (map spec.segment_url (parts self.old))) sheet.old sheet.new result };
+
+    /// Gives a finder the addresses up to the first byte range. Whether there is none.
+    fn push_addresses(
+        &mut self,
+        alloc: Global,
+        finder: &mut PatternFinder,
+        steps: &mut S,
+    ) -> Result<bool, Fail>
+        requires { can_push self.old }
+        ensures whole { MatchResult result (λ whole. whole ≡ list_all is_whole (parts self.old)) (λ fail. fail ≡ Memory) }
+        ensures given { IfOk result (λ whole. IsTrue whole → finder.new ≡ finder.old ++ addresses_of (parts self.old)) };
 }
 
-/// The values of a SegmentList for all its segments (5.3.9.2).
+/// The values of a SegmentList or a SegmentTemplate for all its segments (5.3.9.2).
 #[derive(Clone, Copy)]
 pub(crate) struct ListHead<'a> {
     /// How many ticks make a second.
@@ -45,9 +60,39 @@ pub(crate) struct ListHead<'a> {
     pub(crate) initialization: &'a Part,
 }
 
-/// Writes a SegmentList (5.3.9.3).
-pub(crate) fn push_segment_list<S, D: Durations, P: Files<S>, F: Store>(
+/// Writes the segments of a Representation in a form, given their files twice: for players they are read through once for their
+/// pattern.
+pub(crate) fn push_segments<S, D: Durations, P: Files<S>, F: Store>(
     alloc: Global,
+    form: Form,
+    head: &ListHead<'_>,
+    durations: &mut D,
+    files: &mut P,
+    again: &mut P,
+    sheet: &mut Sheet<F>,
+    steps: &mut S,
+) -> Result<(), Fail>
+    requires few { length (D.durations durations.old) < 2 ^ 64 }
+    requires can { P.can_push files.old }
+    requires can_again { P.can_push again.old }
+    requires same { P.parts again.old ≡ P.parts files.old }
+    ensures { Adds F.Store (element_text (segments_with form head.now.ticks head.now.offset head.now.first head.now.initialization.now
+        (D.durations durations.old) (P.parts files.old))) sheet.old sheet.new result }
+{
+    let template = match form {
+        Form::Plain => return push_segment_list(alloc, true, head, durations, files, sheet, steps),
+        Form::Players => template_of(alloc, head.initialization, again, steps)?,
+    };
+    match template {
+        Some(template) => push_template(alloc, head, &template, durations, sheet),
+        None => push_segment_list(alloc, false, head, durations, files, sheet, steps),
+    }
+}
+
+/// Writes a SegmentList (5.3.9.3).
+fn push_segment_list<S, D: Durations, P: Files<S>, F: Store>(
+    alloc: Global,
+    joined: bool,
     head: &ListHead<'_>,
     durations: &mut D,
     files: &mut P,
@@ -56,11 +101,11 @@ pub(crate) fn push_segment_list<S, D: Durations, P: Files<S>, F: Store>(
 ) -> Result<(), Fail>
     requires few { length (D.durations durations.old) < 2 ^ 64 }
     requires can { P.can_push files.old }
-    ensures { Adds F.Store (element_text (lists.list_with head.now.ticks head.now.offset head.now.first head.now.initialization.now
+    ensures { Adds F.Store (element_text (lists.list_with joined head.now.ticks head.now.offset head.now.first head.now.initialization.now
         (D.durations durations.old) (P.parts files.old))) sheet.old sheet.new result }
 {
     push_start(sheet, "SegmentList", &list_attributes(head), false)?;
-    push_contents(alloc, head, durations, files, sheet, steps)?;
+    push_contents(alloc, joined, head, durations, files, sheet, steps)?;
     push_end(sheet, "SegmentList", false)
 }
 
@@ -76,6 +121,7 @@ fn list_attributes<'a>(head: &ListHead<'_>) -> [Attribute<'a>; 2]
 /// Writes the content of a SegmentList.
 fn push_contents<S, D: Durations, P: Files<S>, F: Store>(
     alloc: Global,
+    joined: bool,
     head: &ListHead<'_>,
     durations: &mut D,
     files: &mut P,
@@ -85,11 +131,11 @@ fn push_contents<S, D: Durations, P: Files<S>, F: Store>(
     requires few { length (D.durations durations.old) < 2 ^ 64 }
     requires can { P.can_push files.old }
     ensures { Adds F.Store
-        (elements_text (lists.contents_with head.now.first head.now.initialization.now (D.durations durations.old) (P.parts files.old)))
+        (elements_text (lists.contents_with joined head.now.first head.now.initialization.now (D.durations durations.old) (P.parts files.old)))
         sheet.old sheet.new result }
 {
     push_initialization(head.initialization, sheet)?;
-    push_timeline(head.first, durations, sheet)?;
+    push_timeline(joined, head.first, durations, sheet)?;
     files.push_urls(alloc, sheet, steps)
 }
 

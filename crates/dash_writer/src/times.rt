@@ -5,7 +5,7 @@ ghost use Rattle.timeline.specs.Listed.{timing_of};
 ghost use Rattle.dash_writer.specs.Elements.{node};
 ghost use Rattle.dash_writer.specs.Lists.{timeline_with};
 ghost use Rattle.dash_writer.specs.Segments as spec;
-ghost use Rattle.dash_writer.specs.SegmentRuns.{begun, ended, gone_on, runs_left};
+ghost use Rattle.dash_writer.specs.SegmentRuns.{IsAlone, begun, ended, gone_on, runs_left};
 ghost use Rattle.dash_writer.specs.Written.{element_text, elements_text, value_text};
 
 use crate::attribute::Value;
@@ -80,13 +80,19 @@ impl SegmentRun {
         }
     }
 
-    /// Adds a segment of this duration. Where it doesn't fit the run, the run is written, and a new one begins.
-    fn go_on<F: Store>(self, duration: u128, sheet: &mut Sheet<F>) -> Result<SegmentRun, Fail>
+    /// Adds a segment of this duration. Where it doesn't fit the run, or segments aren't joined, the run is written, and a new one
+    /// begins.
+    fn go_on<F: Store>(
+        self,
+        joined: bool,
+        duration: u128,
+        sheet: &mut Sheet<F>,
+    ) -> Result<SegmentRun, Fail>
         requires { self.repeats + 1 < 2 ^ 64 }
-        ensures adds { Adds F.Store (elements_text (ended self duration)) sheet.old sheet.new result }
-        ensures run { IfOk result (λ run. run ≡ gone_on self duration) }
+        ensures adds { Adds F.Store (elements_text (ended joined self duration)) sheet.old sheet.new result }
+        ensures run { IfOk result (λ run. run ≡ gone_on joined self duration) }
     {
-        if duration == self.duration {
+        if joined && duration == self.duration {
             let repeats = self.repeats + 1;
             return Ok(SegmentRun { repeats, ..self });
         }
@@ -116,35 +122,39 @@ pub(crate) fn number<'a>(number: Option<u64>) -> Option<Value<'a>>
     Some(Value::Number(number?))
 }
 
-/// Writes the SegmentTimeline (5.3.9.6) of segments, the first of which begins at a time.
+/// Writes the SegmentTimeline (5.3.9.6) of segments, the first of which begins at a time: where they are joined, with an S for
+/// each longest run of equal durations, otherwise for each segment.
 pub(crate) fn push_timeline<D: Durations, F: Store>(
+    joined: bool,
     time: u64,
     durations: &mut D,
     sheet: &mut Sheet<F>,
 ) -> Result<(), Fail>
     requires { length (D.durations durations.old) < 2 ^ 64 }
-    ensures { Adds F.Store (element_text (timeline_with time (D.durations durations.old))) sheet.old sheet.new result }
+    ensures { Adds F.Store (element_text (timeline_with joined time (D.durations durations.old))) sheet.old sheet.new result }
 {
     match durations.next_duration() {
         None => push_leaf(sheet, "SegmentTimeline", &[]),
-        Some(first) => push_runs(SegmentRun::of(Some(time), first), durations, sheet),
+        Some(first) => push_runs(joined, SegmentRun::of(Some(time), first), durations, sheet),
     }
 }
 
 /// Writes the SegmentTimeline of a run and the segments after it.
 fn push_runs<D: Durations, F: Store>(
+    joined: bool,
     first: SegmentRun,
     durations: &mut D,
     sheet: &mut Sheet<F>,
 ) -> Result<(), Fail>
-    requires { first.repeats + length (D.durations durations.old) < 2 ^ 64 }
-    ensures { Adds F.Store (element_text (node (codes "SegmentTimeline") [] (runs_left first (D.durations durations.old))))
+    requires few { first.repeats + length (D.durations durations.old) < 2 ^ 64 }
+    requires alone { IsAlone joined first }
+    ensures { Adds F.Store (element_text (node (codes "SegmentTimeline") [] (runs_left joined first (D.durations durations.old))))
         sheet.old sheet.new result }
 {
     push_start(sheet, "SegmentTimeline", &[], false)?;
     let mut run = first;
     while let Some(duration) = durations.next_duration() {
-        run = run.go_on(duration, sheet)?;
+        run = run.go_on(joined, duration, sheet)?;
     }
     run.push_to(sheet)?;
     push_end(sheet, "SegmentTimeline", false)

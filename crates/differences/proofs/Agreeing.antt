@@ -1,17 +1,16 @@
 -- Nothing differs exactly where two presentations agree.
-use Rattle.std.proofs.Common.{◌≡◌, ℕ, zero, suc, ◌+◌, ◌≤◌, ◌&&◌, Bool, true, false, List, [], ◌∷◌, ◌++◌, length, Option, Some, None}
+use Rattle.std.proofs.Common.{◌≡◌, ℕ, ◌+◌, ◌≤◌, ◌&&◌, Bool, true, false, List, [], ◌∷◌, ◌++◌, length, Option, Some, None}
 use Rattle.std.proofs.Common.{bytes_eq, refl, sym}
 use Rattle.std.proofs.{Common.{◌∙◌, ap, subst, arith}}
 use Rattle.std.proofs.{lemmas.Bool.Decides.{Decides-eqb, Decides-int_eq, Decides-and, Decides-or, nat_tests}}
-use Rattle.std.proofs.{lemmas.Bool.Decides.Decides-like, lemmas.Slice.Eq.bytes_eq-Decides}
+use Rattle.std.proofs.{lemmas.Slice.Eq.bytes_eq-Decides}
 use Rattle.std.proofs.lemmas.List.Elements.{All-head, All-tail}
 use Rattle.std.specs.{Bool.Decides, Option.option_eq, Prelude.nat_le}
 use Rattle.exact_time.specs.Time.{Time, cross, difference}
-use Rattle.bridge_io.specs.{declared.media.Kind.Kind, declared.media.Kind.TheVariants.{Video, Audio, Text}}
-use Rattle.url_parts.specs.{declared.address.Part.Part, declared.range.Range.Range}
 use Rattle.meaning.specs.{declared.difference.Aspect.Aspect, declared.difference.Difference.Difference, Meanings.{Segment, Entry, Track}}
 use Rattle.meaning.specs.{Meanings.Meaning, Same.{Pairwise, SameSegment, SameEntries, SameTrack, begin_of, rounded_down}}
-use Rattle.meaning.specs.Differences.{in_entry, rank_of, is_same_kind, is_same_range, is_same_part}
+use Rattle.meaning.specs.Differences.{in_entry, is_same_kind, is_same_range}
+use Rattle.meaning.proofs.DifferenceLemmas.{Decides-kind, Decides-option, Decides-part, Decides-range, same_part}
 use Rattle.meaning.proofs.SameLemmas.{Pairwise-wider, Pairwise-length}
 use Rattle.differences.specs.{Agreeing.{AgreesWithin, HasSections, HaveEntries, IsAlike, IsEntries}, Sizes.{is_alike, size_of}, declared.deviation.Deviation.Deviation}
 use Rattle.differences.specs.Deviating.{deviations, entries_deviations, entry_deviations, heads_deviations}
@@ -40,44 +39,6 @@ Finds-never : (found : Deviation) (later : List Deviation) → Finds (found ∷ 
 Finds-never found later = (λ p. absurd p, λ e. absurd (cc))
 
 -- ---- the tests
-
-kind_at : ℕ → Kind
-kind_at zero = Video
-kind_at (suc zero) = Audio
-kind_at (suc (suc n)) = Text
-
-kind_at-rank : (a : Kind) → kind_at (rank_of a) ≡ a
-unfolding kind_at
-kind_at-rank Video = refl
-kind_at-rank Audio = refl
-kind_at-rank Text = refl
-
-Decides-kind : (a b : Kind) → Decides (is_same_kind a b) (a ≡ b)
-Decides-kind a b = Decides-like (is_same_kind a b) (λ same. sym (kind_at-rank a) ∙ ap kind_at same
-    ∙ kind_at-rank b) (λ e. ap rank_of e) (Decides-eqb (rank_of a) (rank_of b))
-
-same_range : (a b : Range) → a.first ≡ b.first → a.count ≡ b.count → a ≡ b
-same_range a b first count = subst (λ n. a ≡ record { first = n; count = b.count }) first
-    (subst (λ n. a ≡ record { first = a.first; count = n }) count refl)
-
-Decides-range : (a b : Range) → Decides (is_same_range a b) (a ≡ b)
-Decides-range a b = Decides-like (is_same_range a b) (λ same. same_range a b same.0 same.1)
-    (λ e. (ap (λ r. r.first) e, ap (λ r. r.count) e)) (Decides-and _ _ (Decides-eqb a.first b.first) (Decides-eqb a.count b.count))
-
-Decides-option : {A : Type 0} (E : A → A → Bool) → ((a b : A) → Decides (E a b) (a ≡ b)) → (x y : Option A)
-    → Decides (option_eq E x y) (x ≡ y)
-Decides-option E each None None = (λ h. refl, λ e. refl)
-Decides-option E each None (Some y) = (λ h. absurd (cc), λ e. absurd (cc))
-Decides-option E each (Some x) None = (λ h. absurd (cc), λ e. absurd (cc))
-Decides-option E each (Some x) (Some y) = Decides-like (E x y) (λ same. ap Some same) (λ e. (cc)) (each x y)
-
-same_part : (a b : Part) → a.address ≡ b.address → a.range ≡ b.range → a ≡ b
-same_part a b address range = subst (λ x. a ≡ record { address = x; range = b.range }) address
-    (subst (λ x. a ≡ record { address = a.address; range = x }) range refl)
-
-Decides-part : (a b : Part) → Decides (is_same_part a b) (a ≡ b)
-Decides-part a b = Decides-like (is_same_part a b) (λ same. same_part a b same.0 same.1) (λ e. (ap (λ p. p.address) e, ap (λ p. p.range) e))
-    (Decides-and _ _ (bytes_eq-Decides a.address b.address) (Decides-option is_same_range Decides-range a.range b.range))
 
 Decides-le : (a b : ℕ) → Decides (nat_le a b) (a ≤ b)
 Decides-le a b = (λ e. grind (arith, nat_tests), λ h. grind (arith, nat_tests))

@@ -1,6 +1,11 @@
 pub mod Apart
+pub mod Divisors
 pub mod Gathered
 pub mod Lengths
 pub mod Listed
+pub mod Nearest
+pub mod Origins
+pub mod PeriodStarts
 pub mod Periods
 pub mod Reached
+pub mod Scaled

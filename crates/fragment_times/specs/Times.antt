@@ -1,5 +1,5 @@
 -- The times of a presentation's segments by their files.
-use Rattle.std.specs.{Prelude.{◌≡◌, ℕ, ◌<◌, List, [], ◌∷◌, ◌++◌, length, map, IfSome, Result, Ok}, Option.option_map_or}
+use Rattle.std.specs.{Prelude.{◌≡◌, ℕ, ◌<◌, List, [], ◌∷◌, ◌++◌, length, map, All, IfSome, Result, Ok}, Option.option_map_or}
 use Rattle.bridge_io.specs.{Answer.{and_then, gathered}, Outside.Files}
 use Rattle.url_parts.specs.declared.address.Part.{Part}
 use Rattle.timeline.specs.{declared.window.Window.Window, Expansions.{SegmentTimeline, Timing}}
@@ -58,6 +58,11 @@ FillPlaces p count = AreFilled (length p.sections) (length p.tracks) count
 -- the timescale isn't 0
 abbrev pub IsScaled : SegmentTimes → Type 0
 IsScaled times = 0 < times.scale
+
+-- those that files state have one of at least 1
+abbrev pub TimesAreScaled : Type 0
+TimesAreScaled = (folder : List ℕ) (files : Files) (p : Presented) (times : List SegmentTimes) → times_of folder files p ≡ Ok times
+    → All IsScaled times
 
 -- the segments of a track in a section
 abbrev pub IsTimelineAt : Presented → (s t : ℕ) → SegmentTimeline → Type 0

@@ -1,24 +1,30 @@
 // The durations of segments, by the decode times of their files.
 ghost use Rattle.std.specs.Prelude.{◌≡◌, ◌+◌, ◌-◌, ◌*◌, ◌/◌, ◌<◌, ◌≤◌, ◌^◌, All, IfOk, IfSome, length, option_map, pos, sum, unsigned_abs};
 ghost use Rattle.bridge_io.specs.Answer.{Gives};
+ghost use Rattle.exact_time.specs.Floor.{floor_in};
 ghost use Rattle.exact_time.specs.Tick.{time_of};
 ghost use Rattle.exact_time.specs.Time.{cross};
 ghost use Rattle.timeline.specs.Listed.{timing_of};
 ghost use Rattle.timeline.specs.Steady.{IsWithinLimits};
 ghost use Rattle.presentation.specs.Presented.{IsEnded, listed_at};
 ghost use Rattle.fragment_times.specs.Durations as spec;
+ghost use Rattle.fragment_times.specs.PeriodStarts.{IsStartOf, start_in, times_in};
 ghost use Rattle.fragment_times.specs.Refusals.{IsNoFault, refusal};
 ghost use Rattle.fragment_times.specs.Times.{FillPlaces, IsScaled, behind};
 
-use crate::{FileFault, SegmentSpot, SegmentTimes, TimesFault, TimesList};
+use crate::{FileFault, PeriodStart, SegmentSpot, SegmentTimes, TimesFault, TimesList};
 use bridge_io::{NoMemory, Sequence};
 use exact_time::Tick;
 use presentation::Presentation;
+use segment_forms::Form;
 use std::alloc::Global;
 use timeline::{Span, closed_ends};
 
 /// The longest duration of a segment, in seconds.
 const MOST_SECONDS: u64 = 1_000_000;
+
+/// The latest end of a segment in the players' form, in seconds after its Period's start.
+const MOST_END_SECONDS: u128 = 100_000_000_000;
 
 /// The exclusive upper bound of the total duration of all Periods, in nanoseconds.
 const MOST_NANOS: u128 = 10_000_000_000_000_000_000;
@@ -30,28 +36,34 @@ pub type TickSeq = Sequence<u64>;
 pub type DurationsList = Sequence<TickSeq>;
 
 /// How many ticks each segment lasts, by the decode times of the files: up to the next one's start, and the last one of a
-/// section as long as in the presentation, rounded down to whole ticks, at least one.
+/// section as long as in the presentation, in whole ticks, at least one: rounded down, and in the players' form to the nearest
+/// one, halves up.
+///
+/// A Period starts as [`PeriodStart`] has it: in the plain form each track's own first segment begins with it. It lasts until the
+/// last of its tracks ends, rounded up to nanoseconds.
 ///
 /// The faults of a segment are: `Order` where it doesn't begin after the one before it, and `Range` where it begins more than
-/// 1,000,000 s after that one, or is the last one and doesn't end below 2^63 ticks. They are tried by section, by track, and
-/// segment by segment. At the end, `Range` is returned for all Periods together, where they last 10^19 ns or more: a Period
-/// lasts as long as its longest track, rounded up to nanoseconds.
+/// 1,000,000 s after that one, or is the last one and doesn't end below 2^63 ticks, or, in the players' form, ends more than 10^11 s
+/// after its Period's start. They are tried by section, by track, and segment by segment. At the end, `Range` is returned for all
+/// Periods together, where they last 10^19 ns or more.
 ///
 /// Requires that no segments continue to an open end, and that there are times for each section and track, by section, then by
 /// track, with at least one tick per second.
 #[tactic(auto, unfolding(crate::specs::Durations::durations_of))]
 pub fn durations(
     alloc: Global,
+    form: Form,
     presentation: &Presentation,
     times: &TimesList,
 ) -> Result<DurationsList, TimesFault>
     requires ended { All IsEnded presentation.now.contents }
     requires filled { FillPlaces presentation.now (length times.now) }
     requires scaled { All IsScaled times.now }
-    ensures durations { Gives (λ durations. durations) refusal result (spec.durations_of presentation.now times.now) }
+    ensures durations { Gives (λ durations. durations) refusal result (spec.durations_of form presentation.now times.now) }
     ensures no_fault { IsNoFault result }
 {
     let lasting = Lasting {
+        form,
         presentation,
         times: times.as_slice(),
     };
@@ -62,9 +74,10 @@ pub fn durations(
     Ok(durations)
 }
 
-/// A presentation and the times of its segments' files.
+/// A presentation and the times of its segments' files, for a form of MPD.
 #[derive(Clone, Copy)]
 struct Lasting<'a> {
+    form: Form,
     presentation: &'a Presentation,
     times: &'a [SegmentTimes],
 }
@@ -74,7 +87,9 @@ impl Lasting<'_> {
     fn all(&self, alloc: Global) -> Result<DurationsList, TimesFault>
         requires ended { All IsEnded self.now.presentation.now.contents }
         requires filled { FillPlaces self.now.presentation.now (length self.now.times.now) }
-        ensures durations { Gives (λ durations. durations) refusal result (spec.all_ticks self.now.presentation.now self.now.times.now) }
+        requires scaled { All IsScaled self.now.times.now }
+        ensures durations { Gives (λ durations. durations) refusal result
+            (spec.all_ticks self.now.form self.now.presentation.now self.now.times.now) }
         ensures filled { IfOk result (λ durations. length durations ≡ length self.now.times.now) }
         ensures short { IfOk result (λ durations. All spec.IsShort durations) }
         ensures no_fault { IsNoFault result }
@@ -95,27 +110,40 @@ impl Lasting<'_> {
     ) -> Result<DurationsList, TimesFault>
         requires ended { All IsEnded self.now.presentation.now.contents }
         requires filled { FillPlaces self.now.presentation.now (length self.now.times.now) }
+        requires scaled { All IsScaled self.now.times.now }
         requires section { section < length self.now.presentation.now.sections }
         requires short { All spec.IsShort former }
         ensures durations { Gives (λ durations. durations) refusal result
-            (behind former (spec.section_ticks self.now.presentation.now self.now.times.now section)) }
+            (behind former (spec.section_ticks self.now.form self.now.presentation.now self.now.times.now section)) }
         ensures filled { IfOk result (λ durations. length durations ≡ length former + length self.now.presentation.now.tracks) }
         ensures short { IfOk result (λ durations. All spec.IsShort durations) }
         ensures no_fault { IsNoFault result }
     {
+        let start = PeriodStart::of(self.form, self.times_in(section));
         let mut durations = former;
         for track in 0..self.presentation.tracks().len() {
-            let own = self.track_ticks(alloc, section, track)?;
+            let own = self.track_ticks(alloc, start, section, track)?;
             durations.push(own)?;
         }
         Ok(durations)
     }
 
-    /// The durations of a track's segments in a section.
+    /// The times of a section's tracks.
+    fn times_in(&self, section: usize) -> &[SegmentTimes]
+        requires filled { FillPlaces self.now.presentation.now (length self.now.times.now) }
+        requires section { section < length self.now.presentation.now.sections }
+        ensures { result.now ≡ times_in self.now.presentation.now self.now.times.now section }
+    {
+        let tracks = self.presentation.tracks().len();
+        &self.times[section * tracks..][..tracks]
+    }
+
+    /// The durations of a track's segments in a section that starts then.
     #[tactic(auto, unfolding(crate::specs::Durations::ticks_at))]
     fn track_ticks(
         &self,
         alloc: Global,
+        start: PeriodStart,
         section: usize,
         track: usize,
     ) -> Result<TickSeq, TimesFault>
@@ -123,18 +151,26 @@ impl Lasting<'_> {
         requires filled { FillPlaces self.now.presentation.now (length self.now.times.now) }
         requires section { section < length self.now.presentation.now.sections }
         requires track { track < length self.now.presentation.now.tracks }
-        ensures ticks { Gives (λ ticks. ticks) refusal result (spec.ticks_at self.now.presentation.now self.now.times.now section track) }
+        requires start { start ≡ start_in self.now.form self.now.presentation.now self.now.times.now section }
+        requires begins { All (IsStartOf start) (times_in self.now.presentation.now self.now.times.now section) }
+        ensures ticks { Gives (λ ticks. ticks) refusal result
+            (spec.ticks_at self.now.form self.now.presentation.now self.now.times.now section track) }
         ensures short { IfOk result spec.IsShort }
         ensures no_fault { IsNoFault result }
     {
         let own = &self.times[section * self.presentation.tracks().len() + track];
+        let clock = Clock {
+            form: self.form,
+            scale: own.scale,
+            offset: start.offset(own),
+        };
         let last = self.last_ticks(section, track, own.scale);
         let at = SegmentSpot {
             section,
             track,
             segment: 0,
         };
-        ticks_of(alloc, at, own.scale, last, own.starts.as_slice())
+        ticks_of(alloc, at, clock, last, own.starts.as_slice())
     }
 
     /// How many ticks the last listed segment of a track in a section lasts, by the presentation.
@@ -142,10 +178,10 @@ impl Lasting<'_> {
         requires ended { All IsEnded self.now.presentation.now.contents }
         requires section { section < length self.now.presentation.now.sections }
         requires track { track < length self.now.presentation.now.tracks }
-        ensures { result ≡ spec.last_ticks scale (spec.last_of (listed_at self.now.presentation.now section track)) }
+        ensures { result ≡ spec.last_ticks self.now.form scale (spec.last_of (listed_at self.now.presentation.now section track)) }
     {
         match self.last_span(section, track) {
-            Some(span) => ticks_in(&span, scale),
+            Some(span) => ticks_in(self.form, &span, scale),
             None => 1,
         }
     }
@@ -174,7 +210,7 @@ impl Lasting<'_> {
         requires as_many { length durations.now ≡ length self.now.times.now }
         requires scaled { All IsScaled self.now.times.now }
         requires short { All spec.IsShort durations.now }
-        ensures { result ≡ spec.is_too_long self.now.presentation.now self.now.times.now durations.now }
+        ensures { result ≡ spec.is_too_long self.now.form self.now.presentation.now self.now.times.now durations.now }
     {
         let tracks = self.presentation.tracks().len();
         let mut times = self.times;
@@ -183,7 +219,7 @@ impl Lasting<'_> {
         for _section in 0..self.presentation.sections().len() {
             let (own_times, later_times) = times.split_at(tracks);
             let (own_rows, later_rows) = rows.split_at(tracks);
-            total += longest(own_times, own_rows);
+            total += longest(PeriodStart::of(self.form, own_times), own_times, own_rows);
             if total >= MOST_NANOS {
                 return true;
             }
@@ -194,30 +230,34 @@ impl Lasting<'_> {
     }
 }
 
-/// The duration of the longest of some tracks, in nanoseconds.
-fn longest(times: &[SegmentTimes], durations: &[TickSeq]) -> u128
+/// When the last of some tracks ends, in nanoseconds after the Period's start.
+fn longest(start: PeriodStart, times: &[SegmentTimes], durations: &[TickSeq]) -> u128
     requires as_many { length durations.now ≡ length times.now }
+    requires begins { All (IsStartOf start) times.now }
     requires scaled { All IsScaled times.now }
     requires short { All spec.IsShort durations.now }
-    ensures longest { result ≡ spec.longest times.now durations.now }
-    ensures bounded { result < 2 ^ 94 }
+    ensures longest { result ≡ spec.longest start times.now durations.now }
+    ensures bounded { result < 2 ^ 95 }
 {
     let mut longest = 0;
     for place in 0..times.len() {
         let ticks = durations[place].as_slice();
-        longest = longest.max(nanos_of(times[place].scale, ticks));
+        longest = longest.max(nanos_of(start, &times[place], ticks));
     }
     longest
 }
 
-/// The total duration of segments in nanoseconds, rounded up.
-fn nanos_of(scale: u32, ticks: &[u64]) -> u128
-    requires positive { 0 < scale }
+/// When a track's last segment ends, in nanoseconds after the Period's start, rounded up.
+fn nanos_of(start: PeriodStart, times: &SegmentTimes, ticks: &[u64]) -> u128
+    requires begins { IsStartOf start times.now }
+    requires scaled { IsScaled times.now }
     requires short { spec.IsShort ticks.now }
-    ensures nanos { result ≡ spec.nanos_of scale ticks.now }
-    ensures bounded { result < 2 ^ 94 }
+    ensures nanos { result ≡ spec.nanos_of start times.now ticks.now }
+    ensures bounded { result < 2 ^ 95 }
 {
-    (u128::from(total(ticks)) * 1_000_000_000).div_ceil(u128::from(scale))
+    let until_first = times.first() - start.offset(times);
+    let ticks = u128::from(until_first) + u128::from(total(ticks));
+    (ticks * 1_000_000_000).div_ceil(u128::from(times.scale))
 }
 
 /// The total duration of segments in ticks.
@@ -228,17 +268,46 @@ fn total(ticks: &[u64]) -> u64
     ticks.iter().sum()
 }
 
+/// How a track's segments in a section are counted.
+#[derive(Clone, Copy)]
+struct Clock {
+    form: Form,
+    /// How many ticks make a second.
+    scale: u32,
+    /// When the Period starts, in ticks.
+    offset: u64,
+}
+
+impl Clock {
+    /// Whether no segment can end at a time, in ticks.
+    fn is_late(self, end: u128) -> bool
+        ensures { result ≡ spec.is_late self end }
+    {
+        end >= 1 << 63 || self.is_far(end.saturating_sub(u128::from(self.offset)))
+    }
+
+    /// Whether so many ticks after the Period's start are too many for the form.
+    fn is_far(self, after: u128) -> bool
+        ensures { result ≡ spec.is_far self.form self.scale after }
+    {
+        match self.form {
+            Form::Plain => false,
+            Form::Players => after > MOST_END_SECONDS * u128::from(self.scale),
+        }
+    }
+}
+
 /// The durations of segments that begin at these times; the last one lasts `last` ticks. `at` is the spot of the
 /// first one.
 fn ticks_of(
     alloc: Global,
     at: SegmentSpot,
-    scale: u32,
+    clock: Clock,
     last: u64,
     starts: &[u64],
 ) -> Result<TickSeq, TimesFault>
     requires { at.segment + length starts.now < 2 ^ 64 }
-    ensures ticks { Gives (λ ticks. ticks) refusal result (spec.ticks_of at scale last starts.now) }
+    ensures ticks { Gives (λ ticks. ticks) refusal result (spec.ticks_of at clock last starts.now) }
     ensures short { IfOk result spec.IsShort }
     ensures no_fault { IsNoFault result }
 {
@@ -246,7 +315,7 @@ fn ticks_of(
         return Ok(TickSeq::new(alloc));
     };
     let begun = Begun { at, start: *first };
-    begun.ticks_up_to(alloc, scale, last, later)
+    begun.ticks_up_to(alloc, clock, last, later)
 }
 
 /// A segment that begins at a time.
@@ -261,12 +330,12 @@ impl Begun {
     fn ticks_up_to(
         self,
         alloc: Global,
-        scale: u32,
+        clock: Clock,
         last: u64,
         later: &[u64],
     ) -> Result<TickSeq, TimesFault>
         requires { self.at.segment + length later.now < 2 ^ 64 - 1 }
-        ensures ticks { Gives (λ ticks. ticks) refusal result (spec.ticks_from scale last self later.now) }
+        ensures ticks { Gives (λ ticks. ticks) refusal result (spec.ticks_from clock last self later.now) }
         ensures short { IfOk result spec.IsShort }
         ensures no_fault { IsNoFault result }
     {
@@ -274,10 +343,10 @@ impl Begun {
         let mut begun = self;
         for start in later {
             let next = begun.next(*start);
-            ticks.push(next.ticks_behind(begun.start, scale)?)?;
+            ticks.push(next.ticks_behind(begun.start, clock.scale)?)?;
             begun = next;
         }
-        ticks.push(begun.last_ticks(last)?)?;
+        ticks.push(begun.last_ticks(clock, last)?)?;
         Ok(ticks)
     }
 
@@ -309,34 +378,55 @@ impl Begun {
     }
 
     /// Its duration as the last one, unless it ends too late.
-    fn last_ticks(self, last: u64) -> Result<u64, TimesFault>
-        ensures ticks { result ≡ spec.last_ticks_of last self }
+    fn last_ticks(self, clock: Clock, last: u64) -> Result<u64, TimesFault>
+        ensures ticks { result ≡ spec.last_ticks_of clock last self }
         ensures ends { IfOk result (λ ticks. self.start + ticks < 2 ^ 63) }
         ensures no_fault { IsNoFault result }
     {
-        if u128::from(self.start) + u128::from(last) >= 1 << 63 {
+        if clock.is_late(u128::from(self.start) + u128::from(last)) {
             return Err(TimesFault::Segment(self.at, FileFault::Range));
         }
         Ok(last)
     }
 }
 
-/// How many ticks of a timescale a listed segment lasts, rounded down, at least one.
-fn ticks_in(span: &Span, scale: u32) -> u64
+/// How many ticks of a timescale a listed segment lasts, rounded as the form has it, at least one.
+fn ticks_in(form: Form, span: &Span, scale: u32) -> u64
     requires { IsWithinLimits (timing_of span.now) }
-    ensures { result ≡ spec.ticks_in scale (timing_of span.now) }
+    ensures { result ≡ spec.ticks_in form scale (timing_of span.now) }
 {
-    let second = u64::from(span.end.scale) * u64::from(span.start.scale);
-    floor(elapsed(span), second, scale).max(1)
+    rounded_in(form, span, scale).max(1)
 }
 
-/// `elapsed / second` seconds in units of which `scale` make a second, rounded down.
-fn floor(elapsed: u128, second: u64, scale: u32) -> u64
+/// How many ticks a listed segment lasts: rounded down, and in the players' form to the nearest one, halves up.
+fn rounded_in(form: Form, span: &Span, scale: u32) -> u64
+    requires { IsWithinLimits (timing_of span.now) }
+    ensures { result ≡ spec.rounded_in form scale (spec.lasting_of (timing_of span.now)) }
+{
+    match form {
+        Form::Plain => floor_in(span, u64::from(scale)),
+        Form::Players => floor_in(span, 2 * u64::from(scale)).div_ceil(2),
+    }
+}
+
+/// The duration of a listed segment in units of which `unit` make a second, rounded down.
+fn floor_in(span: &Span, unit: u64) -> u64
+    requires limits { IsWithinLimits (timing_of span.now) }
+    requires unit { unit < 2 ^ 33 }
+    ensures { result ≡ floor_in unit (spec.lasting_of (timing_of span.now)) }
+{
+    let second = u64::from(span.end.scale) * u64::from(span.start.scale);
+    floor(elapsed(span), second, unit)
+}
+
+/// `elapsed / second` seconds in units of which `unit` make a second, rounded down.
+fn floor(elapsed: u128, second: u64, unit: u64) -> u64
     requires some { 0 < second }
     requires bounded { elapsed ≤ 1000000 * second }
-    ensures { result ≡ elapsed * scale / second }
+    requires unit { unit < 2 ^ 33 }
+    ensures { result ≡ elapsed * unit / second }
 {
-    (elapsed * u128::from(scale) / u128::from(second)) as u64
+    (elapsed * u128::from(unit) / u128::from(second)) as u64
 }
 
 /// The duration of a listed segment, over the product of the scales of its end and its start.

@@ -6,14 +6,23 @@
 mod agreement;
 mod fault;
 mod lasting;
+mod laws;
 mod listing;
+mod origin;
 mod part;
+mod period_start;
 mod times;
 mod told;
 
 pub use agreement::first_apart;
 pub use fault::{SegmentSpot, TimesFault};
 pub use lasting::{DurationsList, TickSeq, durations};
+pub use laws::{
+    last_durations_are_the_nearest, offsets_are_one_time, periods_start_before_their_segments,
+    times_are_scaled, tracks_in_step_begin_at_their_offsets,
+};
 pub use layer_faults::times::FileFault;
 pub use listing::listing_at;
+pub use origin::Origin;
+pub use period_start::PeriodStart;
 pub use times::{SegmentTimes, StartList, TimesList, fragment_times};

@@ -8,6 +8,7 @@ ghost use Rattle.presentation.specs.Laws.{HasAddress};
 ghost use Rattle.presentation.specs.Listable.{AreListable};
 ghost use Rattle.presentation.specs.Presented.{listed_at};
 ghost use Rattle.fragment_times.specs.declared.fault.TimesFault.TheVariants.{Fault};
+ghost use Rattle.fragment_times.specs.Origins.{first_of};
 ghost use Rattle.fragment_times.specs.Refusals.{refusal};
 ghost use Rattle.fragment_times.specs.Times as spec;
 
@@ -27,6 +28,15 @@ pub struct SegmentTimes {
     pub scale: u32,
     /// When each listed segment begins, in ticks.
     pub starts: StartList,
+}
+
+impl SegmentTimes {
+    /// When the first segment begins, in ticks; 0 without segments.
+    pub fn first(&self) -> u64
+        ensures { result ≡ first_of self.now }
+    {
+        self.starts.as_slice().first().copied().unwrap_or(0)
+    }
 }
 
 /// Times in ticks, one for each segment, below 2^63.

@@ -6,7 +6,6 @@ use Rattle.std.proofs.{Common.{arith, take_all}, lemmas.List.Elements.{All-appen
 use Rattle.std.proofs.lemmas.Option.{same_Some}
 use Rattle.std.specs.{Prelude.{All, flat_map}, List.fold}
 use Rattle.bridge_io.specs.{InOrder.{put_all, AreBegun}, Outside.{Files, Changes}}
-use Rattle.bridge_jobs.specs.declared.frame.Frame.{Frame}
 use Rattle.bridge_courses.specs.{Courses.{Course, World, files_of, files_to}, Executions.status_by, declared.status.Status.Status}
 use Rattle.bridge_courses.specs.{declared.status.Verdict.Verdict, Laws.{ReadFaultLeavesSteps, ExecutionLeavesSteps, VerdictKeepsSteps}}
 use Rattle.live_meaning.specs.{Updates.{Terms, Update, Values, mpd_of}, Laws.{AcceptedAreAccepted, AcceptedNeverDrift, IsTyped}}

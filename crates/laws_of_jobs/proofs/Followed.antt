@@ -139,4 +139,4 @@ pub can_be_read : ReadCanBeTold → FollowedCanBeRead
 can_be_read read master url tracks rounds new are = (all_read read master url tracks rounds new are).readable
 
 pub are_read : LiveTextsAreRead → ReadCanBeTold → FollowedAreRead
-are_read texts read master url tracks rounds new are = texts new.mpd (can_be_read read master url tracks rounds new are)
+are_read texts read form master url tracks rounds new are = texts form new.mpd (can_be_read read master url tracks rounds new are)

@@ -14,6 +14,7 @@ use Rattle.presentation.proofs.Filling.{ok_under}
 use Rattle.bridge_jobs.specs.{Frames.start, declared.round.Round.Round}
 use Rattle.bridge_report.specs.{Following.unless_refused, Laws.{accepted_in, state_after}, Refusals.refusal_text}
 use Rattle.bridge_report.specs.declared.refusal.Refusal.{Refusal}
+use Rattle.bridge_jobs.specs.declared.jobs.MasterJob.{MasterJob}
 use Rattle.bridge_reach.specs.RoundLaws.{left_by}
 use Rattle.bridge_reach.specs.Rounds.{followed_rounds, hls_of, media_in, medias_behind, medias_of, medias_with, no_rounds, round_state}
 use Rattle.bridge_reach.specs.{Rounds.{round_stream, taken, urls_of}, declared.rounds.LiveHls.LiveHls}
@@ -93,21 +94,21 @@ module _ (bounded : ReadIsBounded) where
 
   -- ---- rounds one behind another
 
-  module _ (out : List ℕ) (tracks : List MasterTrack) where
+  module _ (job : MasterJob) (tracks : List MasterTrack) where
     -- what accepted rounds leave, and that they are rounds
     pub record Goes (s : LiveRounds) (xs : List Round) : Type 0 where
-      pub kept : (state_after (followed_rounds (hls_of out tracks)) s xs).follow.tracks ≡ tracks
-      pub left : (state_after (followed_rounds (hls_of out tracks)) s xs).follow.followed
-          ≡ accepted_after tracks s.follow.followed (map (playlists_at (hls_of out tracks)) xs)
-      pub whole : All (IsRound tracks) (map (playlists_at (hls_of out tracks)) xs)
+      pub kept : (state_after (followed_rounds (hls_of job tracks)) s xs).follow.tracks ≡ tracks
+      pub left : (state_after (followed_rounds (hls_of job tracks)) s xs).follow.followed
+          ≡ accepted_after tracks s.follow.followed (map (playlists_at (hls_of job tracks)) xs)
+      pub whole : All (IsRound tracks) (map (playlists_at (hls_of job tracks)) xs)
 
     goes_on : (s : LiveRounds) (x : Round) (xs : List Round) → s.follow.tracks ≡ tracks → length x.bodies ≡ length tracks
-        → (followed_rounds (hls_of out tracks)).refusal s x ≡ None
-        → (((followed_rounds (hls_of out tracks)).after s x).follow.tracks ≡ tracks
-        → Goes ((followed_rounds (hls_of out tracks)).after s x) xs)
+        → (followed_rounds (hls_of job tracks)).refusal s x ≡ None
+        → (((followed_rounds (hls_of job tracks)).after s x).follow.tracks ≡ tracks
+        → Goes ((followed_rounds (hls_of job tracks)).after s x) xs)
         → Goes s (x ∷ xs)
     goes_on s x xs kept each accepted others =
-        let hls = hls_of out tracks in
+        let hls = hls_of job tracks in
         let step = accepted_step hls s x accepted in
         let rest = others (step.tracks ∙ kept) in
         let history = map (playlists_at hls) xs in
@@ -128,18 +129,18 @@ module _ (bounded : ReadIsBounded) where
         }
 
     pub goes : (xs : List Round) (s : LiveRounds) → s.follow.tracks ≡ tracks → All (λ (r : Round). length r.bodies ≡ length tracks) xs
-        → Goes s (accepted_in (followed_rounds (hls_of out tracks)) s xs)
+        → Goes s (accepted_in (followed_rounds (hls_of job tracks)) s xs)
     goes [] s kept each = record { kept = kept; left = refl; whole = All-nil (IsRound tracks) }
     goes (x ∷ xs) s kept each =
-        go ((followed_rounds (hls_of out tracks)).refusal s x) refl
+        go ((followed_rounds (hls_of job tracks)).refusal s x) refl
         (λ t same. goes xs t same (All-tail (λ (r : Round). length r.bodies ≡ length tracks) x xs each))
       where
-        go : (r : Option (List ℕ)) → (followed_rounds (hls_of out tracks)).refusal s x ≡ r
-            → ((t : LiveRounds) → t.follow.tracks ≡ tracks → Goes t (accepted_in (followed_rounds (hls_of out tracks)) t xs))
-            → Goes s (unless_refused r (x ∷ accepted_in (followed_rounds (hls_of out tracks))
-            ((followed_rounds (hls_of out tracks)).after s x) xs) (accepted_in (followed_rounds (hls_of out tracks)) s xs))
+        go : (r : Option (List ℕ)) → (followed_rounds (hls_of job tracks)).refusal s x ≡ r
+            → ((t : LiveRounds) → t.follow.tracks ≡ tracks → Goes t (accepted_in (followed_rounds (hls_of job tracks)) t xs))
+            → Goes s (unless_refused r (x ∷ accepted_in (followed_rounds (hls_of job tracks))
+            ((followed_rounds (hls_of job tracks)).after s x) xs) (accepted_in (followed_rounds (hls_of job tracks)) s xs))
         go None accepted others = goes_on s x _ kept (All-head (λ (r : Round). length r.bodies ≡ length tracks) x xs each) accepted
-            (λ same. others ((followed_rounds (hls_of out tracks)).after s x) same)
+            (λ same. others ((followed_rounds (hls_of job tracks)).after s x) same)
         go (Some why) refused others = others s kept
 
 -- what rounds leave that are gone over in two parts
@@ -167,10 +168,10 @@ both hls (x ∷ xs) ys s = go ((followed_rounds hls).refusal s x) (λ t. both hl
 abbrev AnyInstant : ℤ → Type 0
 AnyInstant now = Unit {0}
 
-pub each_has : (out : List ℕ) (tracks : List MasterTrack) (bytes : List ℕ)
-    → All (λ (r : Round). length r.bodies ≡ length tracks) (round_stream (hls_of out tracks) start bytes).0
-each_has out tracks bytes =
-    let stream = (round_stream (hls_of out tracks) start bytes).0 in
+pub each_has : (job : MasterJob) (tracks : List MasterTrack) (bytes : List ℕ)
+    → All (λ (r : Round). length r.bodies ≡ length tracks) (round_stream (hls_of job tracks) start bytes).0
+each_has job tracks bytes =
+    let stream = (round_stream (hls_of job tracks) start bytes).0 in
     subst (λ (n : ℕ). All (λ (r : Round). length r.bodies ≡ n) stream)
     (length-map tracks (λ (track : MasterTrack). track.address))
     (All-weaker (IsWhole AnyInstant (λ text now is. tt) (length (urls_of tracks)))
@@ -178,29 +179,29 @@ each_has out tracks bytes =
     (all_have AnyInstant (λ text now is. tt) (suc (length bytes)) (length (urls_of tracks)) start bytes))
 
 pub left_is : ReadIsBounded → LeftIsOfTheHistory
-left_is bounded out tracks bytes n =
-    (goes bounded out tracks (take n (round_stream (hls_of out tracks) start bytes).0) (no_rounds tracks) refl
-    (All-take (λ (r : Round). length r.bodies ≡ length tracks) n _ (each_has out tracks bytes))).left
+left_is bounded job tracks bytes n =
+    (goes bounded job tracks (take n (round_stream (hls_of job tracks) start bytes).0) (no_rounds tracks) refl
+    (All-take (λ (r : Round). length r.bodies ≡ length tracks) n _ (each_has job tracks bytes))).left
 
 pub segments_stay : ReadIsBounded → SegmentsStay → ListedSegmentsStay
-segments_stay bounded stay out tracks bytes m n old new place number placed was is at has =
-    let f = followed_rounds (hls_of out tracks) in
+segments_stay bounded stay job tracks bytes m n old new place number placed was is at has =
+    let f = followed_rounds (hls_of job tracks) in
     let s = no_rounds tracks in
-    let all = (round_stream (hls_of out tracks) start bytes).0 in
-    let each = each_has out tracks bytes in
-    let first = goes bounded out tracks (take m all) s refl (All-take (λ (r : Round). length r.bodies ≡ length tracks) m all each) in
-    let mid = left_by out tracks bytes m in
-    let then = goes bounded out tracks (take n (drop m all)) mid first.kept
+    let all = (round_stream (hls_of job tracks) start bytes).0 in
+    let each = each_has job tracks bytes in
+    let first = goes bounded job tracks (take m all) s refl (All-take (λ (r : Round). length r.bodies ≡ length tracks) m all each) in
+    let mid = left_by job tracks bytes m in
+    let then = goes bounded job tracks (take n (drop m all)) mid first.kept
     (All-take (λ (r : Round). length r.bodies ≡ length tracks) n (drop m all)
     (All-drop (λ (r : Round). length r.bodies ≡ length tracks) m all each)) in
-    let parts : left_by out tracks bytes (m + n) ≡ state_after f mid (accepted_in f mid (take n (drop m all))) =
+    let parts : left_by job tracks bytes (m + n) ≡ state_after f mid (accepted_in f mid (take n (drop m all))) =
     ap (λ (xs : List Round). state_after f s (accepted_in f s xs)) (take-add m n all)
-    ∙ both (hls_of out tracks) (take m all) (take n (drop m all)) s in
+    ∙ both (hls_of job tracks) (take m all) (take n (drop m all)) s in
     stay tracks _ _ old new place number placed
     (record { whole = first.whole; left = sym first.left ∙ was })
     (record {
       whole = then.whole;
-      left = ap (λ (o : Option Followed). accepted_after tracks o (map (playlists_at (hls_of out tracks)) (accepted_in f mid (take n
+      left = ap (λ (o : Option Followed). accepted_after tracks o (map (playlists_at (hls_of job tracks)) (accepted_in f mid (take n
           (drop m all))))) (sym was)
           ∙ sym then.left ∙ ap (λ (t : LiveRounds). t.follow.followed) (sym parts) ∙ is;
     })

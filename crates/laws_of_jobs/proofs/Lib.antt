@@ -6,11 +6,13 @@ mod FewDigits
 mod FewFrames
 mod Followed
 mod FollowedFiles
+mod Forms
 mod FrameStates
 pub mod History
 mod JudgedFrames
 mod Lasting
 mod LiveLists
+mod Pairs
 mod Periods
 mod Readings
 mod Reloads
@@ -21,3 +23,4 @@ mod Segments
 mod Steps
 mod Timed
 mod TimedRuns
+mod Near

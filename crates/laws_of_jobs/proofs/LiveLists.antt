@@ -1,19 +1,19 @@
--- The lists of a live MPD mean their segments.
+-- What a live MPD says of its runs means their segments.
 use Rattle.timeline.specs.declared.names.Names.TheVariants as names
-use Rattle.std.proofs.Common.{◌≡◌, ℕ, zero, suc, ◌+◌, ◌-◌, ◌^◌, ◌<◌, List, [], ◌∷◌, length, map, drop, slice_get, All, Option, Some, None}
+use Rattle.std.proofs.Common.{◌≡◌, ℕ, zero, suc, ◌+◌, ◌-◌, ◌^◌, List, [], ◌∷◌, map, drop, slice_get, All, Some}
 use Rattle.std.proofs.{Common.{refl, sym, ◌∙◌, ap, arith}, lemmas.List.length-map}
-use Rattle.std.specs.List.{AllByRecursion}
 use Rattle.exact_time.specs.Time.{in_units}
 use Rattle.url_parts.specs.declared.address.Part.{Part}
 use Rattle.meaning.specs.Meanings.{Segment}
 use Rattle.timeline.specs.Expansions.{Closed, SegmentTimeline, numbered}
-use Rattle.presentation.specs.{declared.parts.Content.Content, Meanings.{own_part, part_meant}, Presented.whole_window}
+use Rattle.presentation.specs.{declared.parts.Content.Content, Meanings.{part_meant}, Presented.whole_window}
 use Rattle.presentation.specs.Meanings.{entry_of, entry_with as entry_by, segment_of as segment_meant}
 use Rattle.mpd_presentation.specs.Meanings.{content_meant}
 use Rattle.dash_writer.specs.{Live.{first_time, part_of}, declared.live.LivePeriod.LivePeriod, declared.live.LiveRun.LiveRun}
 use Rattle.dash_writer.specs.declared.live.LiveSegment.{LiveSegment}
 use Rattle.hls_follow.specs.Listed.{GoesOn, times_from}
-use Rattle.laws_of_mpds.specs.{Contents.{IsPlainFrom, TimedContentsAreMeant}, Live.durations_in, Rows.in_row, Told.list_told}
+use Rattle.laws_of_mpds.specs.{Contents.{IsPlainFrom, TimedContentsAreMeant}, Live.durations_in, Rows.in_row, Told.segments_told}
+use Rattle.segment_forms.specs.declared.form.Form.{Form}
 use Rattle.laws_of_mpds.proofs.Contents.{listed_from}
 use Rattle.laws_of_jobs.specs.LiveLists.{ListMeans, entry_with, segment_of}
 use Rattle.laws_of_jobs.proofs.Periods.{IsReadRun}
@@ -94,19 +94,20 @@ entry_is c n from (s ∷ segments) same = ap (λ segments. Some (record {
 
 -- ---- the law
 
-pub list_means : TimedContentsAreMeant → (run : LiveRun) → IsReadRun run → GoesOn run → ListMeans run
-list_means meant run read goes url end d bases =
+pub list_means : (form : Form) → TimedContentsAreMeant → (run : LiveRun) → IsReadRun run → GoesOn run → ListMeans form run
+list_means form meant run read goes url end d bases =
     let c = content_of run in
     let first = first_time run.segments in
     let begins : 0 + first ≡ first = omega arith in
     let same = segments_are c.runs (map part_of run.segments) 0 1 first run.segments refl (omega arith) refl goes.times in
     ap (λ n. entry_of whole_window (content_meant url end d
-    (list_told (10 ^ 9) 0 n run.initialization (durations_in run) (map part_of run.segments)))) (sym begins)
-    ∙ meant c 0 first url end d (plain run read) bases
+    (segments_told form (10 ^ 9) 0 n run.initialization (durations_in run) (map part_of run.segments)))) (sym begins)
+    ∙ meant form c 0 first url end d (plain run read) bases
     ∙ ap (entry_by c.initialization c.runs) (listed_from first c (plain run read))
     ∙ entry_is c 1 first run.segments same
 
-pub all_mean : TimedContentsAreMeant → (periods : List LivePeriod) → All (λ (period : LivePeriod). All IsReadRun period.runs) periods
-    → All (λ (period : LivePeriod). All GoesOn period.runs) periods → All (λ (period : LivePeriod). All ListMeans period.runs) periods
-all_mean meant periods read goes = λ i d within k run inside.
-    list_means meant _ (read i d within k run inside) (goes i d within k run inside)
+pub all_mean : (form : Form) → TimedContentsAreMeant → (periods : List LivePeriod)
+    → All (λ (period : LivePeriod). All IsReadRun period.runs) periods → All (λ (period : LivePeriod). All GoesOn period.runs) periods
+    → All (λ (period : LivePeriod). All (ListMeans form) period.runs) periods
+all_mean form meant periods read goes = λ i d within k run inside.
+    list_means form meant _ (read i d within k run inside) (goes i d within k run inside)

@@ -1,11 +1,10 @@
 -- The MPD of a run of `follow-hls` is read as what it says.
 use Rattle.bridge_report.specs.declared.refusal.Refusal.TheVariants as refusal
 use Rattle.std.proofs.Common.{◌≡◌, ◌<◌, ℕ, ℤ, suc, List, [], ◌∷◌, ◌++◌, length, map, take, All, Option, Some, None, Result, Ok, Err, refl, sym}
-use Rattle.std.proofs.{Common.{◌∙◌, ap, subst}, lemmas.List.Elements.{All-cons, All-head, All-map, All-nil, All-push, All-tail, All-take}}
+use Rattle.std.proofs.{Common.{◌∙◌, subst}, lemmas.List.Elements.{All-cons, All-head, All-map, All-nil, All-push, All-tail, All-take}}
 use Rattle.std.proofs.lemmas.List.Elements.{All-weaker}
 use Rattle.std.specs.Result.{result_ok, result_unwrap_or}
 use Rattle.bridge_io.proofs.AndThen.{steps_of}
-use Rattle.bridge_io.specs.Answer.{and_then}
 use Rattle.iso_time.specs.{Instant.{IsReadable, instant_of}, Laws.InstantsAreDenoted, declared.instant.InstantFault.InstantFault}
 use Rattle.hls_master.specs.{declared.track.MasterTrack.MasterTrack, SeenTracks.track_seen}
 use Rattle.hls_media.specs.{Laws.ReadIsBounded, Media.media_of, declared.media.Media.Media}
@@ -86,56 +85,56 @@ module _ (addresses : ReadHaveAddresses) where
 
 module _ (denoted : InstantsAreDenoted) (own : OwnTextsAreAddresses) (rates : ReadHaveRates) (lie : TracksAreOfBytes)
     (bounded : ReadIsBounded) (addresses : ReadHaveAddresses) where
-  each_read : (out : List ℕ) (tracks : List MasterTrack) (input : List ℕ) (n : ℕ) → All IsOfBytes tracks
-      → All IsReadRound (history_to out tracks input n)
-  each_read out tracks input n of_bytes =
-      let hls = hls_of out tracks in
+  each_read : (job : MasterJob) (tracks : List MasterTrack) (input : List ℕ) (n : ℕ) → All IsOfBytes tracks
+      → All IsReadRound (history_to job tracks input n)
+  each_read job tracks input n of_bytes =
+      let hls = hls_of job tracks in
       let stream = (round_stream hls start input).0 in
       let Whole : Round → Type 0 = IsWhole IsReadable (readable denoted) (length (urls_of tracks)) in
       let urls : All OfBytes (urls_of tracks) = All-map OfBytes (λ (track : MasterTrack). track.address) tracks of_bytes in
       let whole : All Whole (take n stream) = All-take Whole n stream
       (all_have IsReadable (readable denoted) (suc (length input)) (length (urls_of tracks)) start input) in
-      let accepted : All Whole (accepted_among out tracks input n) =
+      let accepted : All Whole (accepted_among job tracks input n) =
       all_accepted Whole (followed_rounds hls) (no_rounds tracks) (take n stream) whole in
-      All-map IsReadRound (playlists_at hls) (accepted_among out tracks input n)
+      All-map IsReadRound (playlists_at hls) (accepted_among job tracks input n)
       (All-weaker Whole (λ x. IsReadRound (playlists_at hls x))
-      (λ x is. record { instant = is.now; addresses = in_round addresses (urls_of tracks) x urls }) (accepted_among out tracks input n)
+      (λ x is. record { instant = is.now; addresses = in_round addresses (urls_of tracks) x urls }) (accepted_among job tracks input n)
       accepted)
 
   -- the rounds of a run, as rounds of a master that is read
-  pub are_followed : (words : List (List ℕ)) (job : MasterJob) (files : Files) (tracks : List MasterTrack) (input : List ℕ) (course : Course)
-      (n : ℕ) (followed : Left) (is : IsFollowingRounds words job files tracks input course)
-      → (left_by job.out tracks input n).follow.followed ≡ Some followed
-      → (master : List ℕ) × AreFollowed master is.place.url tracks (history_to job.out tracks input n) followed
+  pub are_followed : (words : List (List ℕ)) (job : MasterJob) (files : Files) (tracks : List MasterTrack) (input : List ℕ)
+      (course : Course) (n : ℕ) (followed : Left) (is : IsFollowingRounds words job files tracks input course)
+      → (left_by job tracks input n).follow.followed ≡ Some followed
+      → (master : List ℕ) × AreFollowed master is.place.url tracks (history_to job tracks input n) followed
   unfolding master_at
   are_followed words job files tracks input course n followed is left =
       let master = steps_of (content_of is.place.file files) (master_in is.place) tracks is.read in
       let read = master_read rates is.place master.value tracks master.then in
       let lies = lies_of job.base job.master is.place is.at in
       let of_bytes = all_of_bytes tracks (lie master.value is.place.url (map track_seen tracks) (own is.place.url lies.own) read) in
-      let hls = hls_of job.out tracks in
+      let hls = hls_of job tracks in
       let stream = (round_stream hls start input).0 in
-      let gone = goes bounded job.out tracks (take n stream) (no_rounds tracks) refl
-      (All-take (λ (r : Round). length r.bodies ≡ length tracks) n stream (each_has job.out tracks input)) in (
+      let gone = goes bounded job tracks (take n stream) (no_rounds tracks) refl
+      (All-take (λ (r : Round). length r.bodies ≡ length tracks) n stream (each_has job tracks input)) in (
         master.value,
         record {
           read = read;
           accepted = record { whole = gone.whole; left = sym gone.left ∙ left };
-          each = each_read job.out tracks input n of_bytes;
+          each = each_read job tracks input n of_bytes;
         },
       )
 
   pub runs_are_read : FollowedAreRead → FollowedRunsAreRead
   runs_are_read said words job files tracks input course n followed is left =
       let are = are_followed words job files tracks input course n followed is left in
-      said are.0 is.place.url tracks (history_to job.out tracks input n) followed are.1
+      said job.form are.0 is.place.url tracks (history_to job tracks input n) followed are.1
 
   pub playlists_are_meant : ReadCanBeTold → RunsGoOn → TimedContentsAreMeant → LastPlaylistsAreListed → LastPlaylistsAreMeant
   playlists_are_meant told goes meant listed words job files tracks input course n followed is left =
-      let rounds = history_to job.out tracks input n in
+      let rounds = history_to job tracks input n in
       let are = are_followed words job files tracks input course n followed is left in
       let read = all_read told are.0 is.place.url tracks rounds followed are.1 in
       record {
-        mean = all_mean meant followed.mpd.periods read.lists (goes tracks rounds followed are.1.accepted.left);
+        mean = all_mean job.form meant followed.mpd.periods read.lists (goes tracks rounds followed are.1.accepted.left);
         listed = λ place track there. listed tracks rounds followed place track are.1.accepted.left there;
       }

@@ -4,6 +4,7 @@ use Rattle.iso_time.specs.Instant.{IsReadable}
 use Rattle.mpd_tree.specs.Meaning.{reading_of}
 use Rattle.mpd_rules.specs.Rules.{dash_values}
 use Rattle.hls_master.specs.{declared.track.MasterTrack.MasterTrack, Masters.master_of, SeenTracks.track_seen}
+use Rattle.segment_forms.specs.declared.form.Form.{Form}
 use Rattle.dash_writer.specs.Live.{live_text}
 use Rattle.hls_follow.specs.{declared.state.Followed.Followed, Histories.{AreAccepted, Playlists}}
 use Rattle.laws_of_mpds.specs.{Live.{IsReadableMpd, live_shown}, Shown.shown_of, Written.HaveAddresses}
@@ -25,6 +26,6 @@ FollowedCanBeRead = (master url : List ℕ) (tracks : List MasterTrack) (rounds 
 
 -- The text is read back with the values of the MPD, whatever is available at a time.
 abbrev pub FollowedAreRead : Type 0
-FollowedAreRead = (master url : List ℕ) (tracks : List MasterTrack) (rounds : List Playlists) (new : Followed)
+FollowedAreRead = (form : Form) (master url : List ℕ) (tracks : List MasterTrack) (rounds : List Playlists) (new : Followed)
     → AreFollowed master url tracks rounds new
-    → option_map (λ tree. shown_of (dash_values tree)) (result_ok (reading_of (live_text new.mpd))) ≡ Some (live_shown new.mpd)
+    → option_map (λ tree. shown_of (dash_values tree)) (result_ok (reading_of (live_text form new.mpd))) ≡ Some (live_shown form new.mpd)

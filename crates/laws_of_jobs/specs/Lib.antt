@@ -2,6 +2,7 @@ pub mod Counts
 pub mod Ends
 pub mod Files
 pub mod Followed
+pub mod Forms
 pub mod Frames
 pub mod Histories
 pub mod LiveLists

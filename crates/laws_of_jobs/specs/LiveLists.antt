@@ -1,4 +1,4 @@
--- What the lists of the MPD of a run of `follow-hls` mean.
+-- What the segments of the MPD of a run of `follow-hls` mean.
 use Rattle.std.specs.Prelude.{◌≡◌, ℕ, ◌+◌, ◌^◌, List, [], ◌∷◌, map, All, slice_get, Option, Some, None}
 use Rattle.bridge_io.specs.Outside.{Files}
 use Rattle.exact_time.specs.Time.{in_units}
@@ -9,6 +9,7 @@ use Rattle.mpd_rules.specs.declared.rows.Description.{Description}
 use Rattle.presentation.specs.{Meanings.entry_of, Presented.whole_window}
 use Rattle.mpd_presentation.specs.Meanings.{content_meant}
 use Rattle.hls_master.specs.declared.track.MasterTrack.{MasterTrack}
+use Rattle.segment_forms.specs.declared.form.Form.{Form}
 use Rattle.dash_writer.specs.{Live.part_of, declared.live.LivePeriod.LivePeriod, declared.live.LiveRun.LiveRun}
 use Rattle.dash_writer.specs.declared.live.LiveSegment.{LiveSegment}
 use Rattle.hls_follow.specs.{Listed.ListsTrack, declared.state.Followed.Followed, declared.state.FollowedTrack.FollowedTrack}
@@ -28,18 +29,18 @@ abbrev pub entry_with : Part → List LiveSegment → Option Entry
 entry_with initialization [] = None
 entry_with initialization (s ∷ segments) = Some (record { initialization = initialization; segments = map segment_of (s ∷ segments) })
 
--- The list of a run means its segments, each with its file, its time and its duration, at any URL of the MPD and any end of the Period,
--- without filtering by a time (ISO/IEC 23009-1, 5.3.9). The MPD has no BaseURL.
-abbrev pub ListMeans : LiveRun → Type 0
-ListMeans run = (url : List ℕ) (end : End) (d : Description) → d.bases ≡ []
-    → entry_of whole_window (content_meant url end d (live_told run)) ≡ entry_with run.initialization run.segments
+-- What an MPD in a form says of a run means its segments, each with its file, its time and its duration, at any URL of the MPD and any
+-- end of the Period, without filtering by a time (ISO/IEC 23009-1, 5.3.9). The MPD has no BaseURL.
+abbrev pub ListMeans : Form → LiveRun → Type 0
+ListMeans form run = (url : List ℕ) (end : End) (d : Description) → d.bases ≡ []
+    → entry_of whole_window (content_meant url end d (live_told form run)) ≡ entry_with run.initialization run.segments
 
 -- ---- a run
 
--- The lists of the MPD mean their segments, and those of each kept track are the segments of its last playlist, in order, with their
--- init segments, URLs, byte ranges, durations and times.
-pub record ListsAreOfPlaylists (followed : Followed) : Type 0 where
-  pub mean : All (λ (period : LivePeriod). All ListMeans period.runs) followed.mpd.periods
+-- What the MPD, in a form, says of its runs means their segments, and those of each kept track are the segments of its last playlist,
+-- in order, with their init segments, URLs, byte ranges, durations and times.
+pub record ListsAreOfPlaylists (form : Form) (followed : Followed) : Type 0 where
+  pub mean : All (λ (period : LivePeriod). All (ListMeans form) period.runs) followed.mpd.periods
   pub listed : (place : ℕ) (track : FollowedTrack) → slice_get followed.tracks place ≡ Some track
       → ListsTrack followed place track
 
@@ -47,4 +48,4 @@ abbrev pub LastPlaylistsAreMeant : Type 0
 LastPlaylistsAreMeant =
     (words : List (List ℕ)) (job : MasterJob) (files : Files) (tracks : List MasterTrack) (input : List ℕ) (course : Course) (n : ℕ)
     (followed : Followed) → IsFollowingRounds words job files tracks input course
-    → (left_by job.out tracks input n).follow.followed ≡ Some followed → ListsAreOfPlaylists followed
+    → (left_by job tracks input n).follow.followed ≡ Some followed → ListsAreOfPlaylists job.form followed

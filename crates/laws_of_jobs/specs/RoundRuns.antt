@@ -27,15 +27,15 @@ pub record IsFollowingRounds (words : List (List ℕ)) (job : MasterJob) (files 
 
 -- how many snapshots an input has
 abbrev pub rounds_in : MasterJob → List MasterTrack → (input : List ℕ) → ℕ
-rounds_in job tracks input = length (round_stream (hls_of job.out tracks) start input).0
+rounds_in job tracks input = length (round_stream (hls_of job tracks) start input).0
 
 -- None of the first n snapshots is accepted and the files are unchanged, or the MPD is that of the whole accepted history, and each
 -- other file is unchanged.
 abbrev pub HoldsMpd : MasterJob → List MasterTrack → (input : List ℕ) → (n : ℕ) → (first last : Files) → Type 0
 HoldsMpd job tracks input n first last =
-    ((accepted_among job.out tracks input n ≡ []) × (last ≡ first))
-    ⊎ ((followed : Followed) × ((left_by job.out tracks input n).follow.followed ≡ Some followed)
-    × (last (in_folder job.out (codes "live.mpd")) ≡ Some (live_text followed.mpd)))
+    ((accepted_among job tracks input n ≡ []) × (last ≡ first))
+    ⊎ ((followed : Followed) × ((left_by job tracks input n).follow.followed ≡ Some followed)
+    × (last (in_folder job.out (codes "live.mpd")) ≡ Some (live_text job.form followed.mpd)))
 
 -- This holds after the files of any number of snapshots.
 abbrev pub RoundFilesAreOfTheHistory : Type 0
@@ -51,8 +51,9 @@ abbrev pub FollowedRunsAreRead : Type 0
 FollowedRunsAreRead =
     (words : List (List ℕ)) (job : MasterJob) (files : Files) (tracks : List MasterTrack) (input : List ℕ) (course : Course) (n : ℕ)
     (followed : Followed) → IsFollowingRounds words job files tracks input course
-    → (left_by job.out tracks input n).follow.followed ≡ Some followed
-    → option_map (λ tree. shown_of (dash_values tree)) (result_ok (reading_of (live_text followed.mpd))) ≡ Some (live_shown followed.mpd)
+    → (left_by job tracks input n).follow.followed ≡ Some followed
+    → option_map (λ tree. shown_of (dash_values tree)) (result_ok (reading_of (live_text job.form followed.mpd)))
+    ≡ Some (live_shown job.form followed.mpd)
 
 -- however a run ends
 abbrev pub FollowHlsLeavesHistory : Type 0

@@ -12,9 +12,11 @@ pub use follow::{
     frames_are_judged_by_the_history,
 };
 pub use mpds::{
-    followed_mpds_are_read, timed_mpds_mean_their_times, what_is_timed_means_the_playlists,
+    both_forms_mean_the_same, followed_mpds_are_read, timed_mpds_mean_their_times,
+    what_is_timed_means_the_playlists,
 };
 pub use rounds::{
-    a_followed_hls_execution_leaves_its_history, followed_mpd_files_are_of_the_history,
-    followed_runs_are_read, last_playlists_are_meant, listed_segments_stay,
+    a_followed_hls_execution_leaves_its_history, both_forms_of_a_run_mean_the_same,
+    followed_mpd_files_are_of_the_history, followed_runs_are_read, last_playlists_are_meant,
+    listed_segments_stay,
 };

@@ -1,9 +1,10 @@
 //! Laws of runs that follow live playlists. The functions do nothing: what they ensure is the law.
+ghost use Rattle.laws_of_jobs.specs.Forms.{FollowedRunsAreAlike};
 ghost use Rattle.laws_of_jobs.specs.LiveLists.{LastPlaylistsAreMeant};
 ghost use Rattle.laws_of_jobs.specs.RoundRuns.{FollowHlsLeavesHistory, FollowedRunsAreRead, RoundFilesAreOfTheHistory};
 ghost use Rattle.laws_of_jobs.specs.Rounds.{LeftIsOfTheHistory, ListedSegmentsStay};
 
-use crate::followed_mpds_are_read;
+use crate::{both_forms_mean_the_same, followed_mpds_are_read};
 use bridge_courses::{a_verdict_keeps_the_steps, an_execution_leaves_its_steps};
 use bridge_reach::the_mpd_is_of_the_accepted_rounds;
 use hls_follow::{last_playlists_are_listed, runs_go_on, segments_stay};
@@ -25,9 +26,9 @@ pub fn listed_segments_stay()
     segments_stay();
 }
 
-/// After the files of any number of snapshots of a run of `follow-hls` the MPD in the output folder has the text for the state after
-/// the whole history of accepted snapshots, for the tracks of the command's master playlist; where none was accepted, each file is
-/// unchanged.
+/// After the files of any number of snapshots of a run of `follow-hls` the MPD in the output folder has the text, in the command's
+/// form, for the state after the whole history of accepted snapshots, for the tracks of the command's master playlist; where none was
+/// accepted, each file is unchanged.
 pub fn followed_mpd_files_are_of_the_history()
     ensures { RoundFilesAreOfTheHistory }
 {
@@ -36,7 +37,7 @@ pub fn followed_mpd_files_are_of_the_history()
 
 /// That MPD is read back with its values, whatever is available at a time (ISO/IEC 23009-1, 5.3.1 to 5.3.9; RFC 8216, 4.3 and 6.2): until
 /// all playlists have EXT-X-ENDLIST, that it is dynamic, when the presentation begins and when the last accepted snapshot was read, in
-/// whole milliseconds; then the id and the start of each Period, and for each track in each Period the list of its segments.
+/// whole milliseconds; then the id and the start of each Period, and for each track in each Period its segments.
 pub fn followed_runs_are_read()
     ensures { FollowedRunsAreRead }
 {
@@ -48,8 +49,20 @@ pub fn followed_runs_are_read()
     what_is_read_is_bounded();
 }
 
-/// Its lists mean, without filtering by a time, exactly the segments of the last accepted playlist of each kept track, in order: init
-/// segment, URL, byte range, duration, and consecutive times from the first one's (ISO/IEC 23009-1, 5.3.9; RFC 8216, 4.3).
+/// In either form that MPD means the same, at any URL and time, whatever is available at the time (ISO/IEC 23009-1, 5.3).
+pub fn both_forms_of_a_run_mean_the_same()
+    ensures { FollowedRunsAreAlike }
+{
+    both_forms_mean_the_same();
+    instants_are_denoted();
+    read_trees_are_of_bytes();
+    read_tracks_can_be_written();
+    what_is_read_has_addresses();
+    what_is_read_is_bounded();
+}
+
+/// It gives each kept track, without filtering by a time, exactly the segments of its last accepted playlist, in order: init segment,
+/// URL, byte range, duration, and consecutive times from the first one's (ISO/IEC 23009-1, 5.3.9; RFC 8216, 4.3).
 pub fn last_playlists_are_meant()
     ensures { LastPlaylistsAreMeant }
 {

@@ -1,8 +1,8 @@
 -- What presentations mean, by what each track has in each section.
-use Rattle.std.proofs.Common.{◌≡◌, ℕ, zero, suc, ◌+◌, ◌||◌, ◌<◌, cond, List, [], ◌∷◌, map, filter, length, slice_get, All, Option, Some, None, IfSome}
-use Rattle.std.proofs.{Common.{Bool, true, false, is_some, option_and_then, refl, ap, ap₂, ◌∙◌, sym, subst, arith}, lemmas.List.length-map}
-use Rattle.std.proofs.lemmas.List.{Elements.{All-cons, All-filter, All-head, All-map, All-nil, All-tail, All-weaker}, FromFn.length-range_with_len}
-use Rattle.std.specs.List.{list_any, range_with_len}
+use Rattle.std.proofs.Common.{◌≡◌, ℕ, zero, suc, ◌+◌, ◌||◌, ◌<◌, cond, List, [], ◌∷◌, map, filter, length, All, Option, Some, None, IfSome}
+use Rattle.std.proofs.{Common.{Bool, true, false, is_some, option_and_then, refl, ap, ap₂, sym, subst, arith}, lemmas.List.length-map}
+use Rattle.std.proofs.lemmas.List.Elements.{All-cons, All-filter, All-head, All-map, All-nil, All-tail, All-weaker}
+use Rattle.std.specs.List.{range_with_len}
 use Rattle.exact_time.specs.Time.{Time}
 use Rattle.meaning.specs.{Meanings.{Entry, Track}, Same.{Pairwise, Same, SameEntries, SameTrack}}
 use Rattle.meaning.proofs.SameLemmas.{Pairwise-length}

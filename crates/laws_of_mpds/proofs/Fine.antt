@@ -1,22 +1,25 @@
 -- Written MPDs can be printed: their tags are legal, and their values can be carried.
 use Rattle.std.proofs.Common.{◌≡◌, ℕ, suc, ◌+◌, ◌<◌, ◌≤◌, ◌==◌, Bool, true, false, List, [], ◌∷◌, ◌++◌, map, length, codes, Option, Some}
-use Rattle.std.proofs.Common.{None, IfSome, option_map, if◌then◌else◌, refl, sym, ap, subst, arith, length-append}
-use Rattle.std.proofs.lemmas.List.Elements.{All-tail}
-use Rattle.std.specs.{Prelude.{decimal, All}, List.AllByRecursion}
+use Rattle.std.proofs.Common.{take, drop, None, IfSome, option_map, if◌then◌else◌, refl, sym, ap, subst, arith, length-append}
+use Rattle.std.proofs.{lemmas.Bool.and_parts, lemmas.List.Elements.All-tail}
+use Rattle.std.specs.{Prelude.{decimal, All}, List.{AllByRecursion, list_all}}
 use Rattle.bridge_io.specs.declared.media.Size.{Size}
 use Rattle.iso_time.specs.Duration.{duration_text}
 use Rattle.url_parts.specs.declared.address.Part.{Part}
 use Rattle.mpd_tree.specs.{Characters.{starts_name, goes_on_name}, Placed.{IsLegal, IsLegalTag}}
 use Rattle.presentation.specs.declared.track.Track.{Track}
-use Rattle.dash_writer.specs.{Elements.{Attribute, Element as Written, node, tag_of}, Lists.{contents_with, head_attributes, list_with}}
-use Rattle.dash_writer.specs.Manifest.{finished_root}
-use Rattle.dash_writer.specs.Outline.{Outline, mime_type, period_element, period_elements, representation_attributes, root_element}
-use Rattle.dash_writer.specs.{Outline.{set_attributes, set_elements, stand_together, track_element, track_elements}, Runs.longest_runs}
-use Rattle.dash_writer.specs.{Segments.{initialization, s_element, s_elements, same_duration, segment_url}, Values.{id_text, range_text}}
+use Rattle.segment_forms.specs.{declared.form.Form.Form, declared.form.Form.TheVariants.{Plain, Players}, declared.pattern.Pattern.Pattern}
+use Rattle.segment_forms.specs.{Media.{doubled, media_if_some, media_of, number_identifier}, Patterns.pattern_of}
+use Rattle.dash_writer.specs.{Elements.{Attribute, Element as Written, node, tag_of}, Forms.{addresses_of, pattern_in, players_by}}
+use Rattle.dash_writer.specs.{Forms.{segments_with, template_attributes, template_with}, Lists.{contents_with, head_attributes, list_with}}
+use Rattle.dash_writer.specs.{Lists.timeline_with, Manifest.finished_root, Outline.{Outline, mime_type, period_element, period_elements}}
+use Rattle.dash_writer.specs.Outline.{representation_attributes, root_element, set_attributes, set_elements, stand_together, track_element}
+use Rattle.dash_writer.specs.{Outline.track_elements, Runs.longest_runs, Segments.{initialization, joins, s_element, s_elements}}
+use Rattle.dash_writer.specs.{Segments.segment_url, Values.{id_text, range_text}}
 use Rattle.laws_of_mpds.specs.{Contents.IsOwnPart, Texts.{IsCarried, IsTellable}}
 use Rattle.laws_of_mpds.proofs.Legal.{IsFine, all_fine, fine_leaf, fine_node, legal_tag, maybe_plain, rate_carried}
-use Rattle.laws_of_mpds.proofs.Plain.{address_plain, carried, decimal_plain, duration_plain, id_plain, mime_plain, range_plain}
-use Rattle.laws_of_mpds.proofs.Sets.{all_join, joined}
+use Rattle.laws_of_mpds.proofs.{Parts.{back as back_of_all, front as front_of_all}, Plain.{ArePlain, address_plain, both, carried}}
+use Rattle.laws_of_mpds.proofs.{Plain.{decimal_plain, duration_plain, id_plain, is_plain, mime_plain, range_plain}, Sets.{all_join, joined}}
 
 pub number : (n : ℕ) → IsCarried (decimal n)
 number n = carried (decimal n) (decimal_plain n)
@@ -60,24 +63,85 @@ fine_urls : (parts : List Part) → AllByRecursion IsOwnPart parts → AllByRecu
 fine_urls [] own = tt
 fine_urls (p ∷ parts) own = (fine_url p own.0, fine_urls parts own.1)
 
--- a list whose files have addresses of their own
-pub fine_list : (ticks : ℕ) (offset : Option ℕ) (first : ℕ) (part : Part) (durations : List ℕ) (parts : List Part) → IsOwnPart part
-    → AllByRecursion IsOwnPart parts → IsFine 2 (list_with ticks offset first part durations parts)
+fine_timeline : (join : Bool) (first : ℕ) (durations : List ℕ) → IsFine 1 (timeline_with join first durations)
 unfolding starts_name goes_on_name
-fine_list ticks offset first part durations parts own all =
-    let times = s_elements (Some first) (longest_runs same_duration durations) in
-    fine_node 1 (codes "SegmentList") (head_attributes ticks offset) (contents_with first part durations parts)
+fine_timeline join first durations =
+    fine_node 0 (codes "SegmentTimeline") [] (s_elements (Some first) (longest_runs (joins join) durations))
+    (legal_tag (codes "SegmentTimeline") [] refl refl tt) (fine_runs (Some first) (longest_runs (joins join) durations))
+
+-- a list whose files have addresses of their own
+fine_list : (join : Bool) (ticks : ℕ) (offset : Option ℕ) (first : ℕ) (part : Part) (durations : List ℕ) (parts : List Part)
+    → IsOwnPart part → AllByRecursion IsOwnPart parts → IsFine 2 (list_with join ticks offset first part durations parts)
+unfolding starts_name goes_on_name
+fine_list join ticks offset first part durations parts own all =
+    fine_node 1 (codes "SegmentList") (head_attributes ticks offset) (contents_with join first part durations parts)
     (legal_tag (codes "SegmentList") (head_attributes ticks offset) refl refl (
       number ticks,
       (maybe_plain decimal decimal_plain offset, tt),
-    )) (
-      fine_initialization part own,
+    )) (fine_initialization part own, (fine_timeline join first durations, fine_urls parts all))
+
+-- ---- templates of such files
+
+doubled_plain : (text : List ℕ) → ArePlain text → ArePlain (doubled text)
+doubled_plain [] plain = refl
+doubled_plain (b ∷ bs) plain =
+    let parts = and_parts (is_plain b) (list_all is_plain bs) plain in
+    both (if b == 36 then codes "$$" else b ∷ []) (doubled bs) (go (b == 36) parts.0) (doubled_plain bs parts.1) where
+      go : (dollar : Bool) → is_plain b ≡ true → ArePlain (if dollar then codes "$$" else b ∷ [])
+      go true here = refl
+      go false here = rw here refl
+
+identifier_plain : (width : ℕ) → ArePlain (number_identifier width)
+identifier_plain width = go (width == 0) where
+  go : (none : Bool) → ArePlain (if none then codes "$Number$" else codes "$Number%0" ++ (decimal width ++ codes "d$"))
+  go true = refl
+  go false = both (codes "$Number%0") (decimal width ++ codes "d$") refl (both (decimal width) (codes "d$") (decimal_plain width) refl)
+
+media_plain : (parts : List Part) → AllByRecursion IsOwnPart parts → ArePlain (media_of (addresses_of parts))
+media_plain [] own = refl
+media_plain (part ∷ parts) own = go (pattern_of (addresses_of (part ∷ parts))) (address_plain part.address own.0.address) where
+  go : (found : Option Pattern) → ArePlain part.address → ArePlain (media_if_some part.address found)
+  go None plain = refl
+  go (Some p) plain =
+      let front = doubled (take p.prefix_len part.address) in
+      let back = doubled (drop p.suffix_start part.address) in
+      both front (number_identifier p.width ++ back)
+      (doubled_plain (take p.prefix_len part.address) (front_of_all is_plain p.prefix_len part.address plain))
+      (both (number_identifier p.width) back (identifier_plain p.width)
+      (doubled_plain (drop p.suffix_start part.address) (back_of_all is_plain p.suffix_start part.address plain)))
+
+fine_template : (ticks : ℕ) (offset : Option ℕ) (first : ℕ) (part : Part) (parts : List Part) (count : ℕ) (durations : List ℕ)
+    → IsOwnPart part → AllByRecursion IsOwnPart parts
+    → IsFine 2 (template_with ticks offset first part.address (media_of (addresses_of parts)) count durations)
+unfolding starts_name goes_on_name
+fine_template ticks offset first part parts count durations own all =
+    let attributes = template_attributes ticks offset (doubled part.address) (media_of (addresses_of parts)) count in
+    fine_node 1 (codes "SegmentTemplate") attributes (timeline_with true first durations ∷ [])
+    (legal_tag (codes "SegmentTemplate") attributes refl refl (
+      number ticks,
       (
-        fine_node 0 (codes "SegmentTimeline") [] times (legal_tag (codes "SegmentTimeline") [] refl refl tt)
-            (fine_runs (Some first) (longest_runs same_duration durations)),
-        fine_urls parts all,
+        maybe_plain decimal decimal_plain offset,
+        (
+          carried (doubled part.address) (doubled_plain part.address (address_plain part.address own.address)),
+          (carried (media_of (addresses_of parts)) (media_plain parts all), (number count, tt)),
+        ),
       ),
-    )
+    ))
+    (fine_timeline true first durations, tt)
+
+-- ---- in a form of MPDs
+
+fine_players : (found : Option Pattern) (ticks : ℕ) (offset : Option ℕ) (first : ℕ) (part : Part) (durations : List ℕ) (parts : List Part)
+    → IsOwnPart part → AllByRecursion IsOwnPart parts → IsFine 2 (players_by found ticks offset first part durations parts)
+fine_players None ticks offset first part durations parts own all = fine_list false ticks offset first part durations parts own all
+fine_players (Some p) ticks offset first part durations parts own all =
+    fine_template ticks offset first part parts p.first_number durations own all
+
+pub fine_segments : (form : Form) (ticks : ℕ) (offset : Option ℕ) (first : ℕ) (part : Part) (durations : List ℕ) (parts : List Part)
+    → IsOwnPart part → AllByRecursion IsOwnPart parts → IsFine 2 (segments_with form ticks offset first part durations parts)
+fine_segments Plain ticks offset first part durations parts own all = fine_list true ticks offset first part durations parts own all
+fine_segments Players ticks offset first part durations parts own all =
+    fine_players (pattern_in part parts) ticks offset first part durations parts own all
 
 -- ---- tracks
 

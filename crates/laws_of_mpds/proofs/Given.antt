@@ -1,16 +1,20 @@
 -- What the tracks of a finished presentation have in its sections.
 use Rattle.std.proofs.Common.{◌≡◌, ℕ, ◌+◌, ◌*◌, ◌^◌, ◌<◌, ◌&&◌, nat_lt, true, List, [], ◌∷◌, length, map, Option, Some, None, option_map}
-use Rattle.std.proofs.{Common.{refl, sym, ◌∙◌, ap, ap₂, arith, inl, inr, slice_get, subst}, Math.Nat.mul-le-mul_left}
+use Rattle.std.proofs.{Common.{option_and_then, refl, sym, ◌∙◌, ap, ap₂, arith, inl, inr, slice_get, subst}, Math.Nat.mul-le-mul_left}
 use Rattle.std.proofs.{lemmas.Bool.Decides.nat_tests, lemmas.Option.{slice_get_cases, get_or_from_slice_get, slice_get_within}}
-use Rattle.std.specs.{List.{All, AllByRecursion}, Prelude.option_to_list, Option.option_map_or}
+use Rattle.std.specs.{List.{All, AllByRecursion}, Prelude.option_to_list}
 use Rattle.url_parts.specs.declared.address.Part.{Part}
 use Rattle.mpd_levels.specs.Segments.{Segments}
-use Rattle.presentation.specs.{declared.parts.Content.Content, Presented.{Presented, content_at, listed_in, start_of, window_at, window_of}}
-use Rattle.presentation.specs.{Presented.whole_window, Meanings.{entry_at, entry_of}}
-use Rattle.dash_writer.specs.{Lists.list_with, Segments.{duration_of, segment_list}, Manifest.segment_lists}
-use Rattle.laws_of_mpds.specs.{Contents.{IsOwnPart, IsPlain}, Meant.{IsWritable, TreesMean}, Told.{IsReadable, told_of}}
-use Rattle.laws_of_mpds.proofs.{Contents.{contents_are_meant, listed_is, parts_are, told_is}, Lists.list_is, Periods.{Means, outline_means}}
-use Rattle.laws_of_mpds.proofs.{Representations.Has, Times.durations_are}
+use Rattle.presentation.specs.{declared.parts.Content.Content, Presented.{Presented, content_at, listed_in, window_of, whole_window}}
+use Rattle.presentation.specs.Meanings.{entry_of}
+use Rattle.segment_forms.specs.{declared.form.Form.Form, declared.form.Form.TheVariants.{Plain, Players}, Media.LiteralsName}
+use Rattle.segment_forms.specs.{Media.TemplatesName, declared.pattern.Pattern.Pattern}
+use Rattle.dash_writer.specs.{Forms.{own_segments, segments_with, pattern_in}, Segments.duration_of, Manifest.segment_lists}
+use Rattle.mpd_presentation.specs.Meanings.{is_counted}
+use Rattle.laws_of_mpds.specs.{Contents.{IsOwnPart, IsPlain}, Meant.{IsWritable, TreesMean}, Told.{IsReadable, players_told, segments_told}}
+use Rattle.laws_of_mpds.specs.Told.{told_of}
+use Rattle.laws_of_mpds.proofs.{Patterns.first_low, Contents.{contents_seen, from_start, listed_is, parts_are, told_is}, Meanings.Gives}
+use Rattle.laws_of_mpds.proofs.{Periods.{entry_through, outline_means, window_is}, Representations.Has, Times.durations_are}
 
 -- what holds of each member of a list
 All-at : {X : Type 0} (P : X → Type 0) (xs : List X) (k : ℕ) (x : X) → All P xs → slice_get xs k ≡ Some x → P x
@@ -29,28 +33,24 @@ has_plain p s i w within below = elim (slice_get_cases p.contents (s * length p.
   | inr past_end ↦ absurd (omega (arith, past_end.0, w.filled, fits s i (length p.sections) (length p.tracks) within below))
 ]
 
--- ---- the list of a content
+-- ---- the segments of a content
 
-pub window_is : (p : Presented) (s : ℕ) → p.following ≡ None → window_of p s ≡ whole_window
-window_is p s finished = ap (λ following. option_map_or (λ f. window_at f (start_of p s)) following whole_window) finished
-
-lists_are : (p : Presented) (s k : ℕ) (c : Content) → p.following ≡ None → content_at p s k ≡ Some c
-    → segment_lists p s k ≡ segment_list c.runs c.initialization (listed_in whole_window c.runs) ∷ []
-lists_are p s k c finished there =
+lists_are : (form : Form) (p : Presented) (s k : ℕ) (c : Content) → p.following ≡ None → content_at p s k ≡ Some c
+    → segment_lists form p s k ≡ own_segments form c.runs c.initialization (listed_in whole_window c.runs) ∷ []
+lists_are form p s k c finished there =
     ap (λ one. option_to_list (option_map
-    (λ (content : Content). segment_list content.runs content.initialization (listed_in (window_of p s) content.runs)) one)) there
-    ∙ ap (λ window. segment_list c.runs c.initialization (listed_in window c.runs) ∷ []) (window_is p s finished)
+    (λ (content : Content). own_segments form content.runs content.initialization (listed_in (window_of p s) content.runs)) one)) there
+    ∙ ap (λ window. own_segments form c.runs c.initialization (listed_in window c.runs) ∷ []) (window_is p s finished)
 
--- a plain content's list has its durations and its parts
-pub list_of : (p : Presented) (s k : ℕ) → p.following ≡ None → (has : HasPlain p s k)
-    → segment_lists p s k ≡ list_with has.0.runs.ticks None 0 has.0.initialization has.2.durations has.2.parts ∷ []
-list_of p s k finished has =
+-- a plain content's segments have its durations and its parts
+pub list_of : (form : Form) (p : Presented) (s k : ℕ) → p.following ≡ None → (has : HasPlain p s k)
+    → segment_lists form p s k ≡ segments_with form has.0.runs.ticks None 0 has.0.initialization has.2.durations has.2.parts ∷ []
+list_of form p s k finished has =
     let c = has.0 in
     let plain = has.2 in
-    lists_are p s k c finished has.1
-    ∙ ap (λ list. list ∷ []) (list_is c.runs c.initialization (listed_in whole_window c.runs)
-    ∙ ap₂ (list_with c.runs.ticks None 0 c.initialization)
-    (ap (map duration_of) (listed_is c plain) ∙ durations_are c.runs.ticks 0 c.runs.first_number plain.durations) (parts_are c plain))
+    lists_are form p s k c finished has.1
+    ∙ ap₂ (λ ds parts. segments_with form c.runs.ticks None 0 c.initialization ds parts ∷ [])
+    (ap (map duration_of) (listed_is c plain) ∙ durations_are c.runs.ticks 0 c.runs.first_number plain.durations) (parts_are c plain)
 
 -- ---- what is told of it
 
@@ -60,11 +60,19 @@ all_readable (p ∷ parts) own = (own.0.readable, all_readable parts own.1)
 
 -- ---- what is told of it, and meant
 
-abbrev told_at : Presented → (section place : ℕ) → Option Segments
-told_at p s k = option_map (λ (c : Content). told_of c.runs c.initialization (listed_in whole_window c.runs)) (content_at p s k)
+abbrev told_at : Form → Presented → (section place : ℕ) → Option Segments
+told_at form p s k = option_map (λ (c : Content). told_of form c.runs c.initialization (listed_in whole_window c.runs)) (content_at p s k)
 
-has_list : (p : Presented) (s k : ℕ) → p.following ≡ None → HasPlain p s k → Has (segment_lists p s) (told_at p s) k
-has_list p s k finished has =
+told_there : (form : Form) (p : Presented) (s k : ℕ) (has : HasPlain p s k)
+    → told_at form p s k
+    ≡ Some (segments_told form has.0.runs.ticks 0 0 has.0.initialization has.2.durations has.2.parts)
+told_there form p s k has =
+    ap (option_map (λ (c : Content). told_of form c.runs c.initialization (listed_in whole_window c.runs))) has.1
+    ∙ ap Some (told_is form has.0 has.2)
+
+has_list : (form : Form) (p : Presented) (s k : ℕ) → p.following ≡ None → HasPlain p s k
+    → Has form (segment_lists form p s) (told_at form p s) k
+has_list form p s k finished has =
     let c = has.0 in
     let plain = has.2 in
     record {
@@ -74,7 +82,7 @@ has_list p s k finished has =
       initialization = c.initialization;
       durations = plain.durations;
       parts = plain.parts;
-      is = list_of p s k finished has;
+      is = list_of form p s k finished has;
       readable = record {
         ticks = plain.ticks;
         offset = tt;
@@ -84,28 +92,44 @@ has_list p s k finished has =
         few = plain.few;
         parts = all_readable plain.parts plain.own;
       };
-      tells = ap (option_map (λ (c : Content). told_of c.runs c.initialization (listed_in whole_window c.runs))) has.1
-          ∙ ap Some (told_is c plain);
+      tells = told_there form p s k has;
     }
 
-pub ticks_counted : (ticks first : ℕ) → 0 < ticks → first < 2 ^ 63 → (nat_lt 0 ticks && nat_lt first (2 ^ 63)) ≡ true
+ticks_counted : (ticks first : ℕ) → 0 < ticks → first < 2 ^ 63 → (nat_lt 0 ticks && nat_lt first (2 ^ 63)) ≡ true
 ticks_counted ticks first some few = grind (arith, nat_tests)
 
-means : (p : Presented) (s k : ℕ) → p.following ≡ None → HasPlain p s k → Means p (segment_lists p) (told_at p) s k
-means p s k finished has =
+-- in either form the segments can be counted
+players_counted : (found : Option Pattern) (ticks offset first : ℕ) (part : Part) (ds : List ℕ) (parts : List Part)
+    → pattern_in part parts ≡ found → 0 < ticks → is_counted (players_told found ticks offset first part ds parts) ≡ true
+players_counted None ticks offset first part ds parts is some = ticks_counted ticks 1 some (omega arith)
+players_counted (Some p) ticks offset first part ds parts is some =
+    let low = first_low part parts p is in ticks_counted ticks p.first_number some (omega (arith, low))
+
+pub form_counted : (form : Form) (ticks offset first : ℕ) (part : Part) (ds : List ℕ) (parts : List Part) → 0 < ticks
+    → is_counted (segments_told form ticks offset first part ds parts) ≡ true
+form_counted Plain ticks offset first part ds parts some = ticks_counted ticks 1 some (omega arith)
+form_counted Players ticks offset first part ds parts some =
+    players_counted (pattern_in part parts) ticks offset first part ds parts refl some
+
+gives : TemplatesName → LiteralsName → (form : Form) (p : Presented) (s k : ℕ) → HasPlain p s k
+    → Gives (told_at form p) (entry_through p) s k
+gives templates literals form p s k has =
     let c = has.0 in
-    let entry_is : entry_at p s k ≡ entry_of whole_window c = rw (has.1, finished) refl in
+    let plain = has.2 in
+    let told = segments_told form c.runs.ticks 0 0 c.initialization plain.durations plain.parts in
     record {
-      segments = told_of c.runs c.initialization (listed_in whole_window c.runs);
-      tells = ap (option_map (λ (c : Content). told_of c.runs c.initialization (listed_in whole_window c.runs))) has.1;
-      counted = ticks_counted c.runs.ticks 1 has.2.positive (omega arith);
-      has = has_list p s k finished has;
-      entry = λ url end d bases. contents_are_meant c url end d has.2 bases ∙ sym entry_is;
+      segments = told;
+      tells = told_there form p s k has;
+      counted = form_counted form c.runs.ticks 0 0 c.initialization plain.durations plain.parts plain.positive;
+      seen = λ window url end d bases. contents_seen templates literals window form c 0 0 url end d (from_start c plain) bases
+          ∙ sym (ap (option_and_then (entry_of window)) has.1);
     }
 
-pub trees_mean : TreesMean
-trees_mean p url now w = outline_means p (segment_lists p) (told_at p) (record {
+pub trees_mean : TemplatesName → LiteralsName → TreesMean
+trees_mean templates literals form p url now w = outline_means form p (segment_lists form p) (told_at form p) (record {
+  finished = w.finished;
   some = w.some;
   ordered = w.ordered;
-  each = λ s k in_sections in_tracks. means p s k w.finished (has_plain p s k w in_sections in_tracks);
+  has = λ s k in_sections in_tracks. has_list form p s k w.finished (has_plain p s k w in_sections in_tracks);
+  gives = λ s k in_sections in_tracks. gives templates literals form p s k (has_plain p s k w in_sections in_tracks);
 }) url now

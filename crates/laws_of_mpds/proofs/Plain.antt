@@ -51,7 +51,7 @@ carried text plain = record {
   no_controls = no_controls text plain;
 }
 
-both : (a b : List ℕ) → ArePlain a → ArePlain b → ArePlain (a ++ b)
+pub both : (a b : List ℕ) → ArePlain a → ArePlain b → ArePlain (a ++ b)
 both a b A B = list_all-append is_plain a b ∙ rw A B
 
 before : (b : ℕ) (bs : List ℕ) → is_plain b ≡ true → ArePlain bs → ArePlain (b ∷ bs)

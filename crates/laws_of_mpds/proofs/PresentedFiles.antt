@@ -16,7 +16,7 @@ use Rattle.hls_meaning.specs.Meanings.{media_by}
 use Rattle.hls_meaning.specs.Meanings.{meaning_over, numbers_among, source_of, sources_of, track_over}
 use Rattle.hls_presentation.specs.Tracks.{sources}
 use Rattle.hls_presentation.proofs.Silent.{read_are_silent}
-use Rattle.laws_of_mpds.specs.{PresentedFiles.{ArePlaylists, IsPlaylist, ListedMeanTheirFiles, PresentedMeanTheirFiles, ended}}
+use Rattle.laws_of_mpds.specs.PresentedFiles.{ArePlaylists, IsPlaylist, ListedMeanTheirFiles, PresentedMeanTheirFiles, ended}
 use Rattle.laws_of_mpds.specs.PresentedLaws.{told_by}
 use Rattle.laws_of_mpds.proofs.PresentedMeant.{presented_mean_what_is_told}
 

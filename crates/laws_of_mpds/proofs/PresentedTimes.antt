@@ -1,5 +1,5 @@
 -- What a track has in a section, in ticks and in nanoseconds.
-use Rattle.std.proofs.Common.{◌≡◌, ℕ, suc, ◌+◌, ◌-◌, ◌/◌, ◌%◌, inl, inr, ◌*ℤ◌, Bool, true, false, List, [], ◌∷◌, map, slice_get, unwrap_or}
+use Rattle.std.proofs.Common.{◌≡◌, ℕ, suc, ◌+◌, ◌-◌, ◌/◌, ◌%◌, inl, inr, Bool, true, false, List, [], ◌∷◌, map, slice_get, unwrap_or}
 use Rattle.std.proofs.{Common.{All, Option, Some, None, Ok, refl, sym, ◌∙◌, ap, subst, arith}, Math.Nat.div-one, lemmas.Bool.or_parts}
 use Rattle.std.proofs.{lemmas.Int.ints, lemmas.List.Elements.{All-head, All-tail}}
 use Rattle.std.specs.List.{list_any}

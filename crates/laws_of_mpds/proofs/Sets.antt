@@ -11,6 +11,7 @@ use Rattle.mpd_profile.specs.LeftOut.{type_of, is_set_left_out}
 use Rattle.mpd_levels.specs.Segments.{Segments, segments_of}
 use Rattle.mpd_rules.specs.{Kept.{is_kept, paths_in, paths_of, path_in, representations_of}, Typed.track_of}
 use Rattle.presentation.specs.{declared.track.Track.Track, Order.{is_of, same_language}}
+use Rattle.segment_forms.specs.declared.form.Form.{Form}
 use Rattle.dash_writer.specs.{Elements.{Element as Written, in_order, tag_of}, Runs.{longest_runs, with_first}}
 use Rattle.dash_writer.specs.Outline.{is_video, set_attributes, set_elements, sets_of, stand_together, track_elements}
 use Rattle.laws_of_mpds.specs.{Told.{AreNamed, read_at}, Shown.{shown_row, shown_tracks}}
@@ -110,17 +111,18 @@ says here track reps = record {
   tongue = value_read (codes "lang") (set_attributes track) (past here (codes "<" ++ codes "AdaptationSet")) ∙ nothing_above track.language;
 }
 
-set_kept : (lists : ℕ → List Written) (told : ℕ → Option Segments) (k : ℕ) (track : Track) (tracks : List Track) (here : Place)
-    → Has lists told k
+set_kept : (form : Form) (lists : ℕ → List Written) (told : ℕ → Option Segments) (k : ℕ) (track : Track) (tracks : List Track)
+    (here : Place)
+    → Has form lists told k
     → is_set_left_out (read_at here (tag_for track, in_order (track_elements lists k (track ∷ tracks)))) ≡ false
 unfolding is_set_left_out
-set_kept lists told k track tracks here has =
+set_kept form lists told k track tracks here has =
     let reps = track_elements lists k (track ∷ tracks) in
     let inside = past here (opening (tag_for track) ++ codes ">") in
     let type = type_of (read_at here (tag_for track, in_order reps)).head in
     rw (
       has_none (codes "Representation") (codes "EssentialProperty") refl inside reps (representations_named lists k (track ∷ tracks)),
-      not_left lists told k track track.kind type (past inside (codes "\n")) has (says here track reps).type,
+      not_left form lists told k track track.kind type (past inside (codes "\n")) has (says here track reps).type,
     ) refl
 
 -- ---- sets in order
@@ -131,48 +133,50 @@ sets_named lists k [] = refl
 sets_named lists k ([] ∷ sets) = sets_named lists (k + 0) sets
 sets_named lists k ((track ∷ tracks) ∷ sets) = sets_named lists (k + suc (length tracks)) sets
 
-sets_shown : (r : Around) (k place : ℕ) (sets : List (List Track)) (here : Place) → HasAll r.lists r.told k (length (joined sets))
+sets_shown : (form : Form) (r : Around) (k place : ℕ) (sets : List (List Track)) (here : Place)
+    → HasAll form r.lists r.told k (length (joined sets))
     → AllByRecursion IsSet sets
     → map shown_row (map (track_of segments_of) (paths_in r.mpd (period_in r) place
     (filter (is_kept listed.AdaptationSet (codes "AdaptationSet") (period_in r).head)
     (side_by_side (placed here (in_order (set_elements r.lists k sets)))))))
     ≡ shown_tracks r.told k (joined sets)
-sets_shown r k place [] here has all = refl
-sets_shown r k place ([] ∷ sets) here has all = absurd (all.0)
-sets_shown r k place ((track ∷ tracks) ∷ sets) here has all =
+sets_shown form r k place [] here has all = refl
+sets_shown form r k place ([] ∷ sets) here has all = absurd (all.0)
+sets_shown form r k place ((track ∷ tracks) ∷ sets) here has all =
     let reps = track_elements r.lists k (track ∷ tracks) in
     let from = past here (codes "\n") in
     let set = read_at from (tag_for track, in_order reps) in
     let next = k + suc (length tracks) in
     let size : suc (length tracks) + length (joined sets) ≡ length ((track ∷ tracks)
     ++ joined sets) = omega (arith, length-append tracks (joined sets)) in
-    let own : HasAll r.lists r.told k (suc (length tracks)) = λ i start below. has i start (omega (arith, below, size)) in
-    let later : HasAll r.lists r.told next (length (joined sets)) =
+    let own : HasAll form r.lists r.told k (suc (length tracks)) = λ i start below. has i start (omega (arith, below, size)) in
+    let later : HasAll form r.lists r.told next (length (joined sets)) =
     λ i start below. has i (omega (arith, start)) (omega (arith, below, size)) in
     let firsts = map (path_in r.mpd (period_in r) set place) (representations_of set) in
     let others = paths_in r.mpd (period_in r) (place + 1)
     (filter (is_kept listed.AdaptationSet (codes "AdaptationSet") (period_in r).head)
     (side_by_side (placed (behind here (tag_for track, in_order reps)) (in_order (set_elements r.lists next sets))))) in
-    rw (set_kept r.lists r.told k track tracks from (own k (omega arith) (omega arith)))
+    rw (set_kept form r.lists r.told k track tracks from (own k (omega arith) (omega arith)))
     (ap (map shown_row) (map-append (track_of segments_of) firsts others)
     ∙ map-append shown_row (map (track_of segments_of) firsts) (map (track_of segments_of) others)
     ∙ ap₂ (λ xs ys. xs ++ ys)
-    (representations_shown r k place (track ∷ tracks) track.kind track.language (tag_for track) reps (past from (opening
+    (representations_shown form r k place (track ∷ tracks) track.kind track.language (tag_for track) reps (past from (opening
     (tag_for track) ++ codes ">")) from own
     (representations_named r.lists k (track ∷ tracks)) (says from track reps) ((refl, refl), all.0))
-    (sets_shown r next (place + 1) sets (behind here (tag_for track, in_order reps)) later all.1)
+    (sets_shown form r next (place + 1) sets (behind here (tag_for track, in_order reps)) later all.1)
     ∙ sym (shown_joins r.told k (track ∷ tracks) (joined sets)))
 
 -- ---- a Period
 
 -- a Period with the sets of all tracks
-pub tracks_shown : (r : Around) (tracks : List Track) → HasAll r.lists r.told 0 (length tracks) → r.sets ≡ sets_of r.lists tracks
+pub tracks_shown : (form : Form) (r : Around) (tracks : List Track) → HasAll form r.lists r.told 0 (length tracks)
+    → r.sets ≡ sets_of r.lists tracks
     → map shown_row (map (track_of segments_of) (paths_of r.mpd (period_in r))) ≡ shown_tracks r.told 0 tracks
-tracks_shown r tracks has are =
+tracks_shown form r tracks has are =
     let sets = longest_runs stand_together tracks in
     let whole = all_join tracks in
     let inside = past r.at (opening r.tag ++ codes ">") in
     ap (λ xs. map shown_row (map (track_of segments_of) (paths_in r.mpd (period_in r) 0
     (filter (is_kept listed.AdaptationSet (codes "AdaptationSet") (period_in r).head) (side_by_side (placed inside (in_order xs))))))) are
-    ∙ sets_shown r 0 0 sets inside (subst (HasAll r.lists r.told 0) (ap length (sym whole)) has) (all_sets_are tracks)
+    ∙ sets_shown form r 0 0 sets inside (subst (HasAll form r.lists r.told 0) (ap length (sym whole)) has) (all_sets_are tracks)
     ∙ ap (shown_tracks r.told 0) whole

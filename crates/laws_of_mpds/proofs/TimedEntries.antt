@@ -1,18 +1,20 @@
 -- What a track has in a section by the times of its files.
 use Rattle.timeline.specs.declared.names.Names.TheVariants as names
-use Rattle.std.proofs.Common.{◌≡◌, ℕ, suc, ◌+◌, ◌-◌, ◌*◌, ◌<◌, List, [], ◌∷◌, length, map, drop, get_or, slice_get, Option, Some, None, IfSome}
-use Rattle.std.proofs.{Common.{option_and_then, refl, sym, ◌∙◌, ap, subst, arith}, Math.Seq.drop-cons, lemmas.List.drop_all}
+use Rattle.std.proofs.Common.{◌≡◌, ℕ, suc, ◌+◌, ◌-◌, ◌*◌, ◌<◌, List, [], ◌∷◌, length, map, drop, get_or, Some, None, IfSome}
+use Rattle.std.proofs.{Common.{option_and_then, refl, sym, ◌∙◌, ap, arith}, Math.Seq.drop-cons, lemmas.List.drop_all}
 use Rattle.std.proofs.lemmas.Option.{slice_get-get_or}
 use Rattle.exact_time.specs.Time.{Time}
 use Rattle.url_parts.specs.declared.address.Part.{Part}
 use Rattle.meaning.specs.{Meanings.Segment, Same.{Pairwise, SameEntries, SameSegment}}
 use Rattle.timeline.specs.{declared.window.Window.Window, Expansions.{Extent, SegmentTimeline, Timing, numbered}}
 use Rattle.presentation.specs.{declared.parts.Content.Content, Presented.{Presented, content_at, listed_in, whole_window, window_of}}
-use Rattle.presentation.specs.Meanings.{entry_at, entry_of, entry_with, own_part, part_meant, segment_of}
+use Rattle.presentation.specs.Meanings.{entry_at, entry_of, entry_with, part_meant, segment_of}
+use Rattle.segment_forms.specs.declared.form.Form.TheVariants.{Plain}
 use Rattle.dash_writer.specs.declared.timed.TickRun.{TickRun}
-use Rattle.laws_of_mpds.specs.{Contents.IsPlain, Meant.IsWritable, Rows.in_row}
-use Rattle.laws_of_mpds.specs.Timed.{AreFilesOf, AreJoined, IsTimed, TimedBeginInRow, TimedKeepTheirFiles, content_with, files_of, meant_parts, timed_as}
-use Rattle.laws_of_mpds.proofs.{Contents.{length_row, listed_from, listed_is, parts_are}, Entries.same_entries_mean, Given.window_is}
+use Rattle.laws_of_mpds.specs.Rows.{in_row}
+use Rattle.laws_of_mpds.specs.Timed.{AreFilesOf, AreJoined, TimedBeginInRow, TimedKeepTheirFiles, content_with, files_of, meant_parts}
+use Rattle.laws_of_mpds.specs.Timed.{timed_as}
+use Rattle.laws_of_mpds.proofs.{Contents.{length_row, listed_from, listed_is, parts_are}, Entries.same_entries_mean, Periods.window_is}
 use Rattle.laws_of_mpds.proofs.Timed.{HasRun, as_many, content_is, from_first, has_run}
 
 -- ---- the parts of segments
@@ -80,7 +82,7 @@ module _ (p : Presented) (times : List TickRun) (s k : ℕ) (finished : p.follow
   with_times = content_with c h.run
 
   abbrev row : List Extent
-  row = in_row h.run.scale 0 h.run.durations
+  row = in_row h.run.scale (h.run.first - h.run.offset) h.run.durations
 
   own : meant_parts c ≡ h.plain.parts
   own =
@@ -92,7 +94,7 @@ module _ (p : Presented) (times : List TickRun) (s k : ℕ) (finished : p.follow
   kept : map (part_meant with_times.runs) (numbered 1 row) ≡ meant_parts c
   kept =
       meant_behind with_times.runs (files_of c) 0 1 row refl (omega arith)
-      (omega (arith, length_row h.run.scale 0 h.run.durations, h.times_of.one_each))
+      (omega (arith, length_row h.run.scale (h.run.first - h.run.offset) h.run.durations, h.times_of.one_each))
       ∙ parts_are c h.plain ∙ sym own
 
   entry_before : entry_at p s k ≡ entry_of whole_window c
@@ -105,19 +107,22 @@ module _ (p : Presented) (times : List TickRun) (s k : ℕ) (finished : p.follow
       let there : content_at q s k ≡ Some with_times =
       content_is p.contents times (s * length p.tracks + k) c h.run h.there h.timed in
       ap (option_and_then (entry_of (window_of q s))) there ∙ ap (λ (window : Window). entry_of window with_times) (window_is q s finished)
-      ∙ ap (entry_with c.initialization with_times.runs) (listed_from 0 with_times (from_first p times s k finished h))
+      ∙ ap (entry_with c.initialization with_times.runs) (listed_from (h.run.first - h.run.offset) with_times
+      (from_first Plain p times s k finished h))
 
   same : SameEntries AnyTime (entry_at p s k) (entry_at (timed_as p times) s k)
   same = rw (entry_before, entry_is)
       (alike c.initialization c.runs with_times.runs (listed_in whole_window c.runs) (numbered 1 row) (sym kept))
 
   filled : (ds : List ℕ) → ds ≡ h.run.durations
-      → IfSome (entry_with c.initialization with_times.runs (numbered 1 (in_row h.run.scale 0 ds))) (AreFilesOf p times s k)
+      → IfSome (entry_with c.initialization with_times.runs (numbered 1 (in_row h.run.scale (h.run.first - h.run.offset) ds)))
+      (AreFilesOf p times s k)
   filled [] is = tt
   filled (d ∷ ds) is =
       let tl = with_times.runs in
-      let own = in_row h.run.scale 0 (d ∷ ds) in
-      let same : own ≡ row = ap (in_row h.run.scale 0) is in
+      let from = h.run.first - h.run.offset in
+      let own = in_row h.run.scale from (d ∷ ds) in
+      let same : own ≡ row = ap (in_row h.run.scale from) is in
       record {
         content = c;
         there = h.there;
@@ -126,7 +131,7 @@ module _ (p : Presented) (times : List TickRun) (s k : ℕ) (finished : p.follow
         initialization = refl;
         parts = part_each tl (numbered 1 own) ∙ ap (λ xs. map (part_meant tl) (numbered 1 xs)) same ∙ kept;
         starts = start_each tl 1 own ∙ ap (map (λ (x : Extent). x.start)) same;
-        joined = joined_each tl 1 h.run.scale 0 (d ∷ ds);
+        joined = joined_each tl 1 h.run.scale from (d ∷ ds);
       }
 
   in_row_is : IfSome (entry_at (timed_as p times) s k) (AreFilesOf p times s k)

@@ -4,7 +4,7 @@ use Rattle.std.proofs.Common.{option_map, unwrap_or, IfSome, Result, Ok, Err, if
 use Rattle.std.proofs.lemmas.List.Elements.{All-nil, All-cons, All-head, All-tail, All-append, All-map, All-filter, All-take}
 use Rattle.std.specs.{Prelude.{codes, bytes_eq, is_some}, Option.option_to_list}
 use Rattle.bridge_io.specs.{Firsts.first_some, Names.is_name, declared.media.Kind.Kind, declared.place.Place.Place}
-use Rattle.url_parts.specs.Addresses.{IsAddress, beside, folder_of, is_normal, resolve, through_last_slash, unchanged, unless_long}
+use Rattle.url_parts.specs.Addresses.{IsAddress, beside, folder_of, resolve, unchanged, unless_long}
 use Rattle.url_parts.specs.{Addresses.without_tail, declared.fault.UrlFault.UrlFault}
 use Rattle.url_parts.proofs.Parsed.{resolved_is_address}
 use Rattle.hls_lines.specs.{Attributes.{NameValue, attributes_of, value_of}, Lines.{PlaylistLine, tag, uri, lines_of}}

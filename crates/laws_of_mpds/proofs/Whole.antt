@@ -109,6 +109,6 @@ can_be_written tracks medias p bounded have ordered tell is =
     })
 
 pub playlists_mean_the_same : TextsMean → PlaylistsMeanTheSame
-playlists_mean_the_same texts tracks medias p url now bounded have ordered tell is =
+playlists_mean_the_same texts form tracks medias p url now bounded have ordered tell is =
     let can = can_be_written tracks medias p bounded have ordered tell is in
-    texts p url now can.written can.told
+    texts form p url now can.written can.told

@@ -1,4 +1,5 @@
 pub mod Contents
+pub mod Forms
 pub mod Live
 pub mod Meant
 pub mod PresentedFiles

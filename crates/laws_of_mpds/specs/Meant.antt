@@ -1,35 +1,13 @@
 -- What a written MPD means is what its presentation means.
-use Rattle.std.specs.Prelude.{◌≡◌, ℕ, ◌+◌, ◌<◌, ℤ, Bool, true, false, List, [], ◌∷◌, length, map, All, Option, Some, None}
+use Rattle.std.specs.Prelude.{◌≡◌, ℕ, ◌<◌, ℤ, Bool, true, false, List, [], ◌∷◌, length, map, All, Option, Some, None}
 use Rattle.bridge_io.specs.{declared.media.Kind.Kind, declared.media.Kind.TheVariants.{Video, Audio, Text}}
-use Rattle.meaning.specs.Meanings.{Entry}
-use Rattle.timeline.specs.declared.entry.End.{End}
 use Rattle.mpd_rules.specs.Rules.{dash_values}
-use Rattle.presentation.specs.{declared.track.Track.Track, Presented.{Presented, AreFilled, whole_window}}
-use Rattle.presentation.specs.Meanings.{entry_at, entry_of, meaning_of}
-use Rattle.mpd_presentation.specs.{Meanings.{content_of_row, meaning_if_counted}, Rows.Row}
+use Rattle.presentation.specs.{declared.track.Track.Track, Presented.{Presented, AreFilled}, Meanings.meaning_of}
+use Rattle.mpd_presentation.specs.Meanings.{meaning_if_counted}
 use Rattle.mpd_tree.specs.Placed.{root_place}
+use Rattle.segment_forms.specs.declared.form.Form.{Form}
 use Rattle.dash_writer.specs.Manifest.{root_of}
 use Rattle.laws_of_mpds.specs.{Told.read_at, Contents.IsPlain}
-
--- ---- what matters of a Representation
-
-pub record Seen : Type 0 where
-  pub kind : Kind
-  pub language : Option (List ℕ)
-  pub entry : Option Entry
-
-abbrev pub seen_of : (url : List ℕ) → End → Row → Seen
-seen_of url end row = record {
-  kind = row.description.kind;
-  language = row.description.language;
-  entry = entry_of whole_window (content_of_row url end row);
-}
-
--- tracks in a section, given the index of the first one
-abbrev pub seen_from : Presented → (section place : ℕ) → List Track → List Seen
-seen_from p section place [] = []
-seen_from p section place (track ∷ tracks) =
-    record { kind = track.kind; language = track.language; entry = entry_at p section place } ∷ seen_from p section (place + 1) tracks
 
 -- ---- presentations that are written and read back
 
@@ -61,5 +39,5 @@ pub record IsWritable (p : Presented) : Type 0 where
 
 -- at any URL and time
 abbrev pub TreesMean : Type 0
-TreesMean = (p : Presented) (url : List ℕ) (now : Option ℤ) → IsWritable p
-    → meaning_if_counted (dash_values (read_at root_place (root_of p))) url now ≡ Some (meaning_of p)
+TreesMean = (form : Form) (p : Presented) (url : List ℕ) (now : Option ℤ) → IsWritable p
+    → meaning_if_counted (dash_values (read_at root_place (root_of form p))) url now ≡ Some (meaning_of p)

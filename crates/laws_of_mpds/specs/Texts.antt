@@ -3,6 +3,7 @@ use Rattle.std.specs.{Prelude.{◌≡◌, ℕ, ℤ, nat_le, IsTrue, List, All, O
 use Rattle.mpd_tree.specs.Grammar.{IsClean}
 use Rattle.presentation.specs.{declared.track.Track.Track, Presented.Presented, Meanings.meaning_of}
 use Rattle.mpd_presentation.specs.Meanings.{dash_meaning}
+use Rattle.segment_forms.specs.declared.form.Form.{Form}
 use Rattle.dash_writer.specs.Manifest.{manifest_text}
 use Rattle.laws_of_mpds.specs.Meant.{IsWritable}
 
@@ -17,5 +18,5 @@ pub record IsTellable (track : Track) : Type 0 where
 
 -- at any URL and time
 abbrev pub TextsMean : Type 0
-TextsMean = (p : Presented) (url : List ℕ) (now : Option ℤ) → IsWritable p → All IsTellable p.tracks
-    → dash_meaning (manifest_text p) url now ≡ Some (meaning_of p)
+TextsMean = (form : Form) (p : Presented) (url : List ℕ) (now : Option ℤ) → IsWritable p → All IsTellable p.tracks
+    → dash_meaning (manifest_text form p) url now ≡ Some (meaning_of p)

@@ -6,6 +6,7 @@ use Rattle.hls_media.specs.{Laws.IsBounded, Media.media_of, declared.media.Media
 use Rattle.hls_presentation.specs.Presenting.{hls_presented_of}
 use Rattle.presentation.specs.{Presented.Presented, Meanings.meaning_of}
 use Rattle.mpd_presentation.specs.Meanings.{dash_meaning}
+use Rattle.segment_forms.specs.declared.form.Form.{Form}
 use Rattle.dash_writer.specs.Manifest.{manifest_text}
 use Rattle.laws_of_mpds.specs.{Meant.are_in_order, Texts.IsCarried}
 
@@ -23,10 +24,10 @@ pub record CanBeTold (track : MasterTrack) : Type 0 where
   pub codecs : IfSome track.codecs IsCarried
 
 abbrev pub PlaylistsMeanTheSame : Type 0
-PlaylistsMeanTheSame = (tracks : List MasterTrack) (medias : List Media) (p : Presented) (url : List ℕ) (now : Option ℤ)
+PlaylistsMeanTheSame = (form : Form) (tracks : List MasterTrack) (medias : List Media) (p : Presented) (url : List ℕ) (now : Option ℤ)
     → All IsBounded medias → All HaveAddresses medias → are_in_order (map (λ (track : MasterTrack). track.kind) tracks) ≡ true
     → All CanBeTold tracks
-    → hls_presented_of tracks medias ≡ Ok p → dash_meaning (manifest_text p) url now ≡ Some (meaning_of p)
+    → hls_presented_of tracks medias ≡ Ok p → dash_meaning (manifest_text form p) url now ≡ Some (meaning_of p)
 
 -- the tracks of a master playlist that was read are in order
 abbrev pub ReadAreInOrder : Type 0
@@ -39,9 +40,10 @@ ReadCanBeTold = (bytes url : List ℕ) (tracks : List MasterTrack) → master_of
 
 -- for the presentation of a master playlist that was read and of playlists with the bounds of those that were read
 abbrev pub ReadMeanTheSame : Type 0
-ReadMeanTheSame = (bytes master : List ℕ) (tracks : List MasterTrack) (medias : List Media) (p : Presented) (url : List ℕ) (now : Option ℤ)
+ReadMeanTheSame = (form : Form) (bytes master : List ℕ) (tracks : List MasterTrack) (medias : List Media) (p : Presented)
+    (url : List ℕ) (now : Option ℤ)
     → master_of bytes master ≡ Ok (map track_seen tracks) → All IsBounded medias → All HaveAddresses medias
-    → hls_presented_of tracks medias ≡ Ok p → dash_meaning (manifest_text p) url now ≡ Some (meaning_of p)
+    → hls_presented_of tracks medias ≡ Ok p → dash_meaning (manifest_text form p) url now ≡ Some (meaning_of p)
 
 -- segments of playlists that were read, with a URL of bytes, have URLs
 abbrev pub ReadHaveAddresses : Type 0

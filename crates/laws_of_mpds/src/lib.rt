@@ -13,8 +13,8 @@ pub use presented::{
     listed_mean_their_files, presented_mean_their_files, presented_mean_what_is_told,
 };
 pub use written::{
-    live_texts_are_read, timed_contents_mean_the_same, timed_lists_are_read,
-    timed_presentations_keep_their_files, timed_texts_are_read, timed_texts_mean_their_times,
-    written_contents_mean_the_same, written_lists_are_read, written_texts_mean_the_same,
-    written_trees_mean_the_same,
+    forms_give_the_same, forms_mean_the_same, live_texts_are_read, timed_contents_mean_the_same,
+    timed_lists_are_read, timed_presentations_keep_their_files, timed_texts_are_read,
+    timed_texts_mean_their_times, written_contents_mean_the_same, written_lists_are_read,
+    written_texts_mean_the_same, written_trees_mean_the_same,
 };

@@ -10,7 +10,7 @@ returns-in-Ok-timed_at g c =
     let job = c.args.job.now in let place = c.in-Ok.place in let read = c.in-Ok-timed_at.ensures.reads in
     at_place (store_place_of job.base job.master) place
     (dash_times_at job (g.F.Store.files c.args.store.now)) c.write.result _ _ c.in-Ok.ensures
-    (then_ends (outcome_of job) (writing (files_of job) line_of) (timed_at place) c.write.result _ _
+    (then_ends (outcome_of job) (writing (files_of job) line_of) (timed_at job.form place) c.write.result _ _
     (c.in-Ok-timed_at.timed.presentation, c.in-Ok-timed_at.timed.runs) _ read.read read.cause.never_falls read.files read.writes
     c.write.ensures)
 
@@ -20,5 +20,5 @@ returns-in-Ok g c =
     let job = c.args.job.now in let place = c.in-Ok.place in let read = c.in-Err-timed_at.ensures.reads in
     at_place (store_place_of job.base job.master) place
     (dash_times_at job (g.F.Store.files c.args.store.now)) c.halted.result _ _ c.in-Ok.ensures
-    (halts (outcome_of job) (writing (files_of job) line_of) (timed_at place) c.halted.result _ _ c.in-Err-timed_at.halt
+    (halts (outcome_of job) (writing (files_of job) line_of) (timed_at job.form place) c.halted.result _ _ c.in-Err-timed_at.halt
     c.halted.ensures read.read (λ e. read.cause.rose (ap Err e)) read.cause.never_falls read.files read.writes)

@@ -13,6 +13,6 @@ durations_at-requires-clause-listable g c = c.playlists_can_be_listed.ensures c.
 pub returns-clause-can : goal.returns-clause-can
 returns-clause-can g c =
     let p = c.args.presentation.now in let times = c.in_ok-times.times in let rows = c.in_ok-durations.durations in
-    let is = ok_under (named_by c.args.place.now p) (durations_of p times) rows c.in_ok-durations.ensures.durations in
-    let made = can_be_timed p times rows c.in_ok-times.ensures.filled c.requires c.in_ok-times.ensures.scaled is in
+    let is = ok_under (named_by c.args.place.now p) (durations_of c.args.form p times) rows c.in_ok-durations.ensures.durations in
+    let made = can_be_timed c.args.form p times rows c.in_ok-times.ensures.filled c.requires c.in_ok-times.ensures.scaled is in
     rw (c.in_ok-runs_of.ensures, c.as_slice-starts.ensures, c.as_slice-ticks.ensures) made

@@ -8,7 +8,7 @@ use Rattle.bridge_reach.specs.DashTimes.{files_of}
 
 pub returns : goal.returns
 returns g c =
-    let p = c.args.timed.now.presentation in let runs = c.args.timed.now.runs in let text = timed_text p runs in
+    let p = c.args.timed.now.presentation in let runs = c.args.timed.now.runs in let text = timed_text c.args.job.now.form p runs in
     let put = c.write_mpd_timed-wrote.ensures in let told = c.in-Ok.ensures in let name = c.in-Ok.name in
     let before = g.F.Store.files c.args.store.now in let after = g.F.Store.files c.write_mpd_timed-wrote.new.store in
     let wrote = c.write_mpd_timed-wrote.result in

@@ -11,7 +11,7 @@ returns-in-Ok-clause-runs g c =
     let falls : NeverFalls _ _ =
     record { input = omega arith; reads = read.cause.never_falls; writes = omega (arith, read.writes); report = omega arith } in
     record {
-      work = read_worked c.args.out.now (g.F.Store.files c.args.store.now) (g.I.Source.remaining c.args.input.now) c.args.place.now
+      work = read_worked c.args.job.now (g.F.Store.files c.args.store.now) (g.I.Source.remaining c.args.input.now) c.args.place.now
           c.follow_master.result c.in-Ok.master _ _ _ read.read (record { files = read.files; report = refl; made = refl }) falls
           ends.work;
       never_falls = falls_then _ _ _ falls ends.never_falls;
@@ -30,7 +30,7 @@ returns-in-Err-clause-runs g c =
     let falls : NeverFalls _ _ =
     record { input = omega arith; reads = read.cause.never_falls; writes = omega (arith, read.writes); report = omega arith } in
     record {
-      work = halt_worked c.args.out.now (g.F.Store.files c.args.store.now) (g.I.Source.remaining c.args.input.now) c.args.place.now
+      work = halt_worked c.args.job.now (g.F.Store.files c.args.store.now) (g.I.Source.remaining c.args.input.now) c.args.place.now
           c.halted.result _ _ (record { files = read.files; report = refl; made = refl }) falls
           c.in-Err.halt c.halted.ensures (λ e. read.cause.rose (ap Err e)) read.read;
       never_falls = falls;

@@ -8,7 +8,7 @@ pub returns-clause-runs : goal.returns-clause-runs
 unfolding rounds_course
 returns-clause-runs g c =
     let job = c.args.job in let files = g.F.Store.files c.args.store.now in let input = g.I.Source.remaining c.args.input.now in record {
-      work = unplaced_worked (store_place_of job.base job.master) (rounds_at job.out files input) c.in-Err.told _ c.in-Err.ensures;
+      work = unplaced_worked (store_place_of job.base job.master) (rounds_at job files input) c.in-Err.told _ c.in-Err.ensures;
       never_falls = stays _;
       told = none_grown _ _ refl;
     }

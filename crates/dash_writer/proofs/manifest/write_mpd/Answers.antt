@@ -1,5 +1,5 @@
 use Rattle.std.proofs.Common.{◌≡◌, ◌<◌, length, refl, ap, ◌∙◌, arith}
-use Rattle.presentation.specs.Presented.{Presented}
+use Rattle.dash_writer.specs.declared.listed.OwnLists.{OwnLists}
 use Rattle.dash_writer.specs.Given.{text_with}
 use Rattle.dash_writer.specs.Manifest.{finished_root, last_end, manifest_text, period_attributes, root_attributes, segment_lists}
 use Rattle.dash_writer.proofs.Origins.{some_list}
@@ -12,13 +12,16 @@ write-requires g c = let p = c.args.presentation.now in let sections = c.as_slic
     let in_sections : section < length p.sections = omega (arith, below, ap length sections) in
     let in_tracks : track < length p.tracks = omega (arith, within, ap length tracks) in (
       record { origin = c.requires; in_sections = in_sections; in_tracks = in_tracks },
-      some_list p section track c.requires.filled
+      some_list c.args.form p section track c.requires.filled
           in_sections in_tracks,
     )
 
-same_text : (p : Presented) → text_with period_attributes segment_lists (root_attributes p.sections) p.sections p.tracks p ≡ manifest_text p
+same_text : (given : OwnLists) → let p = given.presentation.now in
+    text_with period_attributes (λ (lists : OwnLists). segment_lists lists.form lists.presentation.now) (root_attributes p.sections) p.sections
+    p.tracks given
+    ≡ manifest_text given.form p
 unfolding text_with manifest_text
-same_text p = refl
+same_text given = refl
 
 pub returns-clause-ok : goal.returns-clause-ok
 returns-clause-ok g c = let sections = c.as_slice-sections.ensures ∙ c.sections.ensures in
@@ -27,7 +30,7 @@ returns-clause-ok g c = let sections = c.as_slice-sections.ensures ∙ c.section
       sections,
       c.as_slice.ensures
           ∙ c.tracks.ensures,
-      same_text c.args.presentation.now,
+      same_text (record { form = c.args.form; presentation = c.args.presentation }),
     ) at c.write.ensures.ok
 
 pub returns-clause-err : goal.returns-clause-err
@@ -37,5 +40,5 @@ returns-clause-err g c = let sections = c.as_slice-sections.ensures ∙ c.sectio
       sections,
       c.as_slice.ensures
           ∙ c.tracks.ensures,
-      same_text c.args.presentation.now,
+      same_text (record { form = c.args.form; presentation = c.args.presentation }),
     ) at c.write.ensures.err

@@ -19,7 +19,7 @@ write-requires g c = let p = c.args.presentation.now in let times = c.as_slice-t
         listed = record { origin = c.requires.origin; in_sections = in_sections; in_tracks = in_tracks };
         timed = place_within section (length p.sections) (length p.tracks) place (length times) filled in_sections in_tracks;
       },
-      some_timed_list p times section place c.requires.origin.filled filled in_sections in_tracks,
+      some_timed_list c.args.form p times section place c.requires.origin.filled filled in_sections in_tracks,
     )
 
 -- the text of what tracks have in the sections
@@ -32,11 +32,11 @@ text_of p times lists = outline_text (record {
 })
 
 same_text : (p : Presented) (times : List TickRun) (lists : TimedLists) → lists.presentation.now ≡ p → lists.times.now ≡ times
-    → text_with period_attributes (λ (lists : TimedLists). timed_lists lists.presentation.now lists.times.now)
-    (root_attributes (timed_sections p times)) (timed_sections p times) p.tracks lists ≡ timed_text p times
+    → text_with period_attributes (λ (lists : TimedLists). timed_lists lists.form lists.presentation.now lists.times.now)
+    (root_attributes (timed_sections p times)) (timed_sections p times) p.tracks lists ≡ timed_text lists.form p times
 unfolding text_with timed_text text_of
 same_text p times lists is are =
-    ap (λ q. text_of p times (timed_lists q lists.times.now)) is ∙ ap (λ ts. text_of p times (timed_lists p ts)) are
+    ap (λ q. text_of p times (timed_lists lists.form q lists.times.now)) is ∙ ap (λ ts. text_of p times (timed_lists lists.form p ts)) are
 
 pub returns-clause-ok : goal.returns-clause-ok
 returns-clause-ok g c = let p = c.args.presentation.now in let times = c.args.times.now in
@@ -47,7 +47,7 @@ returns-clause-ok g c = let p = c.args.presentation.now in let times = c.args.ti
       c.finished_root-root.ensures ∙ ap finished_root (c.last_end.ensures ∙ ap last_end (c.as_slice.ensures ∙ sections)),
       c.as_slice-2.ensures ∙ sections,
       tracks,
-      same_text p times (record { presentation = c.args.presentation; times = c.as_slice-times.result }) refl c.as_slice-times.ensures,
+      same_text p times (record { form = c.args.form; presentation = c.args.presentation; times = c.as_slice-times.result }) refl c.as_slice-times.ensures,
     ) at c.write.ensures.ok
 
 pub returns-clause-err : goal.returns-clause-err
@@ -59,5 +59,5 @@ returns-clause-err g c = let p = c.args.presentation.now in let times = c.args.t
       c.finished_root-root.ensures ∙ ap finished_root (c.last_end.ensures ∙ ap last_end (c.as_slice.ensures ∙ sections)),
       c.as_slice-2.ensures ∙ sections,
       tracks,
-      same_text p times (record { presentation = c.args.presentation; times = c.as_slice-times.result }) refl c.as_slice-times.ensures,
+      same_text p times (record { form = c.args.form; presentation = c.args.presentation; times = c.as_slice-times.result }) refl c.as_slice-times.ensures,
     ) at c.write.ensures.err

@@ -8,5 +8,5 @@ invariant-loop-start l = record {
   within : l.start-index ≤ length l.later;
   room : l.begun.at.segment ≡ l.fn.self.at.segment + l.start-index;
   rises : l.fn.self.start + sum l.ticks ≡ l.begun.start;
-  told : behind l.ticks (ticks_from l.scale l.last l.begun (drop l.start-index l.later)) ≡ ticks_from l.scale l.last l.fn.self l.later;
+  told : behind l.ticks (ticks_from l.clock l.last l.begun (drop l.start-index l.later)) ≡ ticks_from l.clock l.last l.fn.self l.later;
 }

@@ -10,13 +10,13 @@ loop-section-init c =
     rw c.new-durations.ensures (record {
       short = search rules;
       filled = omega arith;
-      told = from_first (section_ticks p c.args.self.now.times.now) (length p.sections) [] ∙ behind_nothing _;
+      told = from_first (section_ticks c.args.self.now.form p c.args.self.now.times.now) (length p.sections) [] ∙ behind_nothing _;
     })
 
 pub returns-in_err-durations-clause-durations : goal.returns-in_err-durations-clause-durations
 returns-in_err-durations-clause-durations c =
     let p = c.args.self.now.presentation.now in let l = c.loop-section in let n = length p.sections in
-    let give = section_ticks p c.args.self.now.times.now in
+    let give = section_ticks c.args.self.now.form p c.args.self.now.times.now in
     let within : l.section < n = omega (arith, ap length c.sections.ensures) in
     let fault = err_from_is_err_and c.from_residual.result c.from_residual.ensures.1 in
     rw (fault.1, fault.2) (next_refused give l.section (from_on (l.section + 1) n) l.durations _
@@ -25,7 +25,7 @@ returns-in_err-durations-clause-durations c =
 pub loop-section-preserved : goal.loop-section-preserved
 loop-section-preserved c =
     let p = c.args.self.now.presentation.now in let l = c.loop-section in let n = length p.sections in
-    let give = section_ticks p c.args.self.now.times.now in
+    let give = section_ticks c.args.self.now.form p c.args.self.now.times.now in
     let within : l.section < n = omega (arith, ap length c.sections.ensures) in
     record {
       short = c.in_ok-durations.ensures.short;
@@ -37,5 +37,5 @@ loop-section-preserved c =
 pub returns-clause-durations : goal.returns-clause-durations
 returns-clause-durations c =
     let p = c.args.self.now.presentation.now in let l = c.loop-section in
-    from_last (section_ticks p c.args.self.now.times.now) (length p.sections) l.durations l.section
+    from_last (section_ticks c.args.self.now.form p c.args.self.now.times.now) (length p.sections) l.durations l.section
     (omega (arith, ap length c.sections.ensures)) _ l.invariant.told

@@ -9,8 +9,9 @@ abbrev pub invariant-loop-section : goal.invariant-loop-section
 invariant-loop-section l =
     let p = l.fn.self.presentation.now in
     let times = l.fn.self.times.now in
+    let form = l.fn.self.form in
     record {
       short : All IsShort l.durations;
       filled : length l.durations ≡ l.section * length p.tracks;
-      told : behind l.durations (gathered (section_ticks p times) (from_on l.section (length p.sections))) ≡ all_ticks p times;
+      told : behind l.durations (gathered (section_ticks form p times) (from_on l.section (length p.sections))) ≡ all_ticks form p times;
     }

@@ -7,6 +7,7 @@ abbrev pub invariant-loop-section : goal.invariant-loop-section
 invariant-loop-section l =
     let p = l.fn.self.presentation.now in
     let tracks = length p.tracks in
+    let form = l.fn.self.form in
     let left = length p.sections - l._section in
     record {
       filled : length l.times ≡ left * tracks;
@@ -14,6 +15,6 @@ invariant-loop-section l =
       scaled : All IsScaled l.times;
       short : All IsShort l.rows;
       few : l.total < 10 ^ 19;
-      told : l.total + sum (lengths tracks left l.times l.rows)
-          ≡ sum (lengths tracks (length p.sections) l.fn.self.times.now l.fn.durations);
+      told : l.total + sum (lengths form tracks left l.times l.rows)
+          ≡ sum (lengths form tracks (length p.sections) l.fn.self.times.now l.fn.durations);
     }

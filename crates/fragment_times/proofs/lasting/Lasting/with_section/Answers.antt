@@ -8,16 +8,17 @@ use Rattle.fragment_times.proofs.Gathered.{from_first, from_last, from_next, nex
 pub loop-track-init : goal.loop-track-init
 loop-track-init c =
     let p = c.args.self.now.presentation.now in
+    let give = ticks_at c.args.self.now.form p c.args.self.now.times.now c.args.section in
     record {
       short = c.requires.short;
       filled = omega arith;
-      told = from_first (λ t. alone (ticks_at p c.args.self.now.times.now c.args.section t)) (length p.tracks) c.args.former;
+      told = from_first (λ t. alone (give t)) (length p.tracks) c.args.former;
     }
 
 pub returns-in_err-own-clause-durations : goal.returns-in_err-own-clause-durations
 returns-in_err-own-clause-durations c =
     let p = c.args.self.now.presentation.now in let l = c.loop-track in let n = length p.tracks in
-    let give = ticks_at p c.args.self.now.times.now c.args.section in
+    let give = ticks_at c.args.self.now.form p c.args.self.now.times.now c.args.section in
     let within : l.track < n = omega (arith, ap length c.tracks.ensures) in
     let fault = err_from_is_err_and c.from_residual.result c.from_residual.ensures.1 in
     rw (fault.1, fault.2) (next_refused (λ t. alone (give t)) l.track (from_on (l.track + 1) n) l.durations _
@@ -27,7 +28,7 @@ returns-in_err-own-clause-durations c =
 pub loop-track-preserved : goal.loop-track-preserved
 loop-track-preserved c =
     let p = c.args.self.now.presentation.now in let l = c.loop-track in let n = length p.tracks in
-    let give = ticks_at p c.args.self.now.times.now c.args.section in
+    let give = ticks_at c.args.self.now.form p c.args.self.now.times.now c.args.section in
     let within : l.track < n = omega (arith, ap length c.tracks.ensures) in
     rw c.in_ok-push.ensures.ok (record {
       short = All-push IsShort l.durations c.in_ok-own.own l.invariant.short c.in_ok-own.ensures.short;
@@ -40,5 +41,5 @@ loop-track-preserved c =
 pub returns-clause-durations : goal.returns-clause-durations
 returns-clause-durations c =
     let p = c.args.self.now.presentation.now in let l = c.loop-track in
-    from_last (λ t. alone (ticks_at p c.args.self.now.times.now c.args.section t)) (length p.tracks) l.durations l.track
-    (omega (arith, ap length c.tracks.ensures)) _ l.invariant.told
+    from_last (λ t. alone (ticks_at c.args.self.now.form p c.args.self.now.times.now c.args.section t)) (length p.tracks) l.durations
+    l.track (omega (arith, ap length c.tracks.ensures)) _ l.invariant.told

@@ -8,9 +8,10 @@ abbrev pub invariant-loop-track : goal.invariant-loop-track
 invariant-loop-track l =
     let p = l.fn.self.presentation.now in
     let times = l.fn.self.times.now in
+    let form = l.fn.self.form in
     record {
       short : All IsShort l.durations;
       filled : length l.durations ≡ length l.fn.former + l.track;
-      told : behind l.durations (each (ticks_at p times l.section) (from_on l.track (length p.tracks)))
-          ≡ behind l.fn.former (section_ticks p times l.section);
+      told : behind l.durations (each (ticks_at form p times l.section) (from_on l.track (length p.tracks)))
+          ≡ behind l.fn.former (section_ticks form p times l.section);
     }

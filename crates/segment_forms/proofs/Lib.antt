@@ -1,0 +1,10 @@
+mod Walks
+mod Rows
+mod PlaceLemmas
+mod NumberLemmas
+mod AddressLemmas
+mod RunLemmas
+mod MediaLemmas
+mod StepLemmas
+mod GivenLemmas
+mod TemplateLemmas
