@@ -8,8 +8,8 @@ _bridge() {
         return
     fi
     case $command in
-    hls) options='--base= --now= --out= --digits=' wanted=mpd ;;
-    hls-index) options='--base= --out= --digits=' wanted=mpd ;;
+    hls) options='--base= --now= --out= --digits= --addresses=' wanted=mpd ;;
+    hls-index) options='--base= --out= --digits= --addresses=' wanted=mpd ;;
     dash | dash-times | follow-hls) options='--base= --out= --form=' wanted=m3u8 ;;
     show) options='--base= --now= --digits=' wanted='@(mpd|m3u8)' ;;
     check) options='--base= --digits=' wanted='@(mpd|m3u8)' ;;
@@ -17,13 +17,14 @@ _bridge() {
     agree) options='--base=' wanted=mpd ;;
     reload) options='--base=' wanted=m3u8 ;;
     make) options='--seed= --out= --digits=' wanted= ;;
-    follow) options='--base= --out= --digits=' wanted=mpd ;;
+    follow) options='--base= --out= --digits= --addresses=' wanted=mpd ;;
     *) return ;;
     esac
     options+=' --explain'
     case $prev in
     --base) mapfile -t COMPREPLY < <(compgen -W 'http:// https://' -- "$cur"); compopt -o nospace; return ;;
     --out) _filedir -d; return ;;
+    --addresses) mapfile -t COMPREPLY < <(compgen -W 'absolute relative' -- "$cur"); return ;;
     --form) mapfile -t COMPREPLY < <(compgen -W 'plain players' -- "$cur"); return ;;
     --digits) mapfile -t COMPREPLY < <(compgen -W '3 4 5 6 7 8 9' -- "$cur"); return ;;
     --now) mapfile -t COMPREPLY < <(compgen -W "$(date -u +%FT%TZ)" -- "$cur"); return ;;

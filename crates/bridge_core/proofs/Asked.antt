@@ -1,12 +1,13 @@
 -- What words say of the folder and the digits of a job.
 use Rattle.bridge_jobs.specs.declared.jobs.Job.TheVariants as job
 use Rattle.bridge_jobs.specs.declared.verb.Verb.TheVariants as verb
-use Rattle.std.proofs.Common.{◌≡◌, ℕ, ℤ, ◌-◌, ◌≤◌, ◌&&◌, IsTrue, List, [], ◌∷◌, Option, None, Some, IfSome, option_map, refl, arith, inl, inr}
+use Rattle.std.proofs.Common.{◌≡◌, ℕ, ℤ, ◌-◌, ◌≤◌, ◌&&◌, IsTrue, List, [], ◌∷◌, Option, None, Some, IfSome, option_map}
+use Rattle.std.proofs.Common.{refl, arith, inl, inr}
 use Rattle.std.proofs.{lemmas.Bool.cases_Bool, lemmas.Bool.Decides.nat_tests}
 use Rattle.std.specs.Prelude.{nat_le, codes, unwrap_or}
 use Rattle.bridge_jobs.specs.declared.{jobs.Job.Job, jobs.CheckJob.CheckJob, jobs.CompareJob.CompareJob, jobs.MasterJob.MasterJob}
 use Rattle.bridge_jobs.specs.declared.verb.Verb.{Verb}
-use Rattle.bridge_jobs.specs.Jobs.{compare_of, form_of, most_of, within_of}
+use Rattle.bridge_jobs.specs.Jobs.{addresses_of, compare_of, form_of, most_of, within_of}
 use Rattle.bridge_jobs.specs.Jobs.{◌>>=◌, agree_of, base_of, check_of, digits_in, digits_of, digits_or_six, file_of, first_verb, folder_in}
 use Rattle.bridge_jobs.specs.Jobs.{follow_of, hls_of, index_of, is_folder, job_by, job_of, make_of, master_of, name_in, now_of, out_of}
 use Rattle.bridge_jobs.specs.{Jobs.{reload_of, show_of}, Verbs.values_of}
@@ -65,12 +66,14 @@ few_of : (rows : List Row) (digits : ℕ) → digits_of rows ≡ Some digits →
 unfolding digits_of
 few_of rows digits is = few_or_six (first_of (codes "digits") rows) digits is
 
--- the last two of a job's values
-ended_in : {A : Type 0} (P : A → Type 0) (out : Option (List ℕ)) (digits : Option ℕ) (make : List ℕ → ℕ → A)
-    → ((o : List ℕ) (d : ℕ) → out ≡ Some o → digits ≡ Some d → P (make o d)) → IfSome (out >>= (λ o. digits >>= (λ d. Some (make o d)))) P
-ended_in P None digits make is = tt
-ended_in P (Some o) None make is = tt
-ended_in P (Some o) (Some d) make is = is o d refl refl
+-- the last three of a job's values
+ended_in : {A B : Type 0} (P : A → Type 0) (out : Option (List ℕ)) (digits : Option ℕ) (last : Option B) (make : List ℕ → ℕ → B → A)
+    → ((o : List ℕ) (d : ℕ) (l : B) → out ≡ Some o → digits ≡ Some d → P (make o d l))
+    → IfSome (out >>= (λ o. digits >>= (λ d. last >>= (λ l. Some (make o d l))))) P
+ended_in P None digits last make is = tt
+ended_in P (Some o) None last make is = tt
+ended_in P (Some o) (Some d) None make is = tt
+ended_in P (Some o) (Some d) (Some l) make is = is o d l refl refl
 
 out_is : (rows : List Row) (out : List ℕ) → out_of rows ≡ Some out → IsTrue (is_folder out)
 unfolding out_of
@@ -80,15 +83,15 @@ hls_bounded : (rows : List Row) → IfSome (hls_of rows) (λ j. IsBounded (job.H
 unfolding hls_of
 hls_bounded rows =
     behind _ (file_of (codes "mpd") rows) _ (λ mpd. behind _ (base_of rows) _ (λ base. behind _ (now_of rows) _ (λ now.
-    ended_in (λ j. IsBounded (job.Hls j)) (out_of rows) (digits_of rows) _
-    (λ out digits folder few. (out_is rows out folder, few_of rows digits few)))))
+    ended_in (λ j. IsBounded (job.Hls j)) (out_of rows) (digits_of rows) (addresses_of rows) _
+    (λ out digits addresses folder few. (out_is rows out folder, few_of rows digits few)))))
 
 index_bounded : (rows : List Row) → IfSome (index_of rows) (λ j. IsBounded (job.HlsIndex j))
 unfolding index_of
 index_bounded rows =
     behind _ (file_of (codes "mpd") rows) _ (λ mpd. behind _ (base_of rows) _ (λ base.
-    ended_in (λ j. IsBounded (job.HlsIndex j)) (out_of rows) (digits_of rows) _
-    (λ out digits folder few. (out_is rows out folder, few_of rows digits few))))
+    ended_in (λ j. IsBounded (job.HlsIndex j)) (out_of rows) (digits_of rows) (addresses_of rows) _
+    (λ out digits addresses folder few. (out_is rows out folder, few_of rows digits few))))
 
 named : (text name : List ℕ) → name_in text ≡ Some name → IsTrue (is_name name)
 named text name is = elim (cases_Bool (is_name text)) [

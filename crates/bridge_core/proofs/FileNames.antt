@@ -1,20 +1,21 @@
 -- The files that are written, by their names.
 use Rattle.std.proofs.Common.{◌≡◌, ℕ, zero, suc, ◌+◌, ◌^◌, ◌<◌, ◌≤◌, List, [], ◌∷◌, ◌++◌, map, length, None, Option, Some, bytes_eq, eqb}
-use Rattle.std.proofs.{Common.{refl, sym, ◌∙◌, ap, arith, inl, inr, append_assoc}, lemmas.Bool.{cases_Bool, eqb-true}}
+use Rattle.std.proofs.{Common.{refl, sym, ◌∙◌, ap, arith, inl, inr, subst, append_assoc}, lemmas.Bool.{cases_Bool, eqb-true}}
 use Rattle.std.proofs.{lemmas.Bool.Decides.nat_tests, lemmas.Fmt.decimal_injective, lemmas.List.{append_cancel_left, append_cancel_right}}
 use Rattle.std.proofs.lemmas.Option.{slice_get_within}
 use Rattle.std.specs.{Prelude.{codes, decimal, option_map, slice_get}, List.range_with_len, Option.option_map_or}
 use Rattle.bridge_io.proofs.Texts.{same_bytes, equals_itself}
 use Rattle.bridge_io.specs.{InOrder.put_all, Outside.{Files, put}}
 use Rattle.bridge_jobs.specs.Laws.{in_folder, playlist_of}
+use Rattle.bridge_jobs.specs.declared.jobs.Addresses.{Addresses, TheVariants.{Absolute, Relative}}
 use Rattle.presentation.specs.Presented.{Presented}
 use Rattle.hls_writer.specs.{Finished.media_text, Master.master_text}
-use Rattle.laws_of_playlists.specs.SameFiles.{AreWritten, master_name}
+use Rattle.laws_of_playlists.specs.{ReadMedia.Spells, SameFiles.{AreWritten, master_name, playlist_under}}
+use Rattle.url_parts.{proofs.Spellings.{stands_alone, stands_beside}, specs.Spelling.{PlaylistPlace, place_of}}
 use Rattle.live_meaning.specs.{States.{State, Track}, Playlists.{FollowedPlaylist, live_text, playlist_of as followed_of, playlist_with}}
 use Rattle.laws_of_reloads.specs.First.{HoldState}
-use Rattle.live_session.specs.Sessions.{text_of}
-use Rattle.bridge_steps.specs.Playlists.{playlists}
-use Rattle.bridge_live.specs.LiveMpds.{live_files}
+use Rattle.bridge_steps.specs.Playlists.{OutputPlace, output_of, playlists, spelling_in}
+use Rattle.bridge_live.specs.LiveMpds.{live_files, track_text}
 use Rattle.bridge_live.proofs.LiveFiles.{files_first}
 
 -- ---- one file
@@ -100,16 +101,25 @@ module _ (out : List ℕ) (texts : ℕ → List ℕ) where
 
 -- ---- the playlists of a static MPD, and of a first live one
 
-pub are_written : (out : List ℕ) (digits : ℕ) (p : Presented) (files : Files) → length p.tracks ≤ 200
-    → AreWritten (put_all (playlists out digits p) files) (out ++ 47 ∷ []) p digits
-are_written out digits p files few = record {
-  master = master_there out (media_text p digits) (master_text p) (length p.tracks) few files;
-  playlists = playlist_there out (media_text p digits) (master_text p) (length p.tracks) few files;
-}
+-- what is written for a URL stands for it in the playlist
+pub spells_in : (addresses : Addresses) (base out : List ℕ) (t : ℕ) → Spells (spelling_in (output_of addresses base out) t)
+    (playlist_under base (out ++ 47 ∷ []) t)
+spells_in Absolute base out t = stands_alone _
+spells_in Relative base out t =
+    subst (λ name. Spells (place_of base out (playlist_of t)) (base ++ name)) (sym (append_assoc out (47 ∷ []) (playlist_of t)))
+    (stands_beside base out (playlist_of t))
 
-read_text : (o : Option FollowedPlaylist) (playlist : FollowedPlaylist) → o ≡ Some playlist
-    → option_map_or live_text o [] ≡ live_text playlist
-read_text o playlist is = ap (λ o. option_map_or live_text o []) is
+pub are_written : (output : OutputPlace) (digits : ℕ) (p : Presented) (files : Files) → length p.tracks ≤ 200
+    → AreWritten (put_all (playlists output digits p) files) (output.folder ++ 47 ∷ []) (spelling_in output) p digits
+are_written output digits p files few =
+    let texts = λ (t : ℕ). media_text (spelling_in output t) p digits t in record {
+      master = master_there output.folder texts (master_text p) (length p.tracks) few files;
+      playlists = playlist_there output.folder texts (master_text p) (length p.tracks) few files;
+    }
+
+read_text : (place : Option PlaylistPlace) (o : Option FollowedPlaylist) (playlist : FollowedPlaylist) → o ≡ Some playlist
+    → option_map_or (live_text place) o [] ≡ live_text place playlist
+read_text place o playlist is = ap (λ o. option_map_or (live_text place) o []) is
 
 some_track : (tracks : List Track) (t : ℕ) (o : Option Track) (f : Track → FollowedPlaylist) (playlist : FollowedPlaylist)
     → slice_get tracks t ≡ o
@@ -117,12 +127,12 @@ some_track : (tracks : List Track) (t : ℕ) (o : Option Track) (f : Track → F
 some_track tracks t None f playlist found is = absurd (cc)
 some_track tracks t (Some track) f playlist found is = slice_get_within tracks t track found
 
-pub first_written : (out : List ℕ) (s : State) (files : Files) → s.common.accepted ≡ 1 → length s.tracks ≤ 200
-    → HoldState (put_all (live_files out s) files) (out ++ 47 ∷ []) s
-first_written out s files one few = rw (files_first out s one) (record {
-  master = master_there out (text_of s) (master_text s.common.opened) (length s.tracks) few files;
+pub first_written : (output : OutputPlace) (s : State) (files : Files) → s.common.accepted ≡ 1
+    → length s.tracks ≤ 200 → HoldState (put_all (live_files output s) files) (output.folder ++ 47 ∷ []) (spelling_in output) s
+first_written output s files one few = rw (files_first output s one) (record {
+  master = master_there output.folder (track_text output s) (master_text s.common.opened) (length s.tracks) few files;
   playlists = λ t playlist is.
-      playlist_there out (text_of s) (master_text s.common.opened) (length s.tracks) few files t
+      playlist_there output.folder (track_text output s) (master_text s.common.opened) (length s.tracks) few files t
       (some_track s.tracks t (slice_get s.tracks t) (playlist_with s.common) playlist refl is)
-      ∙ ap (λ text. Some text) (read_text (followed_of s t) playlist is);
+      ∙ ap (λ text. Some text) (read_text (spelling_in output t) (followed_of s t) playlist is);
 })

@@ -15,11 +15,12 @@ use Rattle.laws_of_playlists.specs.{Origins.{IsFound, OwnTextsAreAddresses, Read
 use Rattle.laws_of_playlists.specs.SameFiles.{master_name}
 use Rattle.presentation.specs.Meanings.{meaning_of}
 use Rattle.bridge_playlists.specs.Places.{store_place_of}
-use Rattle.bridge_steps.specs.{Done.done_line, Playlists.playlists}
-use Rattle.bridge_reach.specs.{Index.{index_outcome, outcome_of, presented}}
+use Rattle.bridge_steps.specs.{Done.done_line, Playlists.{playlists, spelling_in}}
+use Rattle.bridge_reach.specs.{Index.{index_outcome, outcome_of, output_of_job, presented}}
 use Rattle.bridge_reach.proofs.Came.{came_from, is_indexed}
 use Rattle.bridge_core.specs.{Courses.{course_of, course_of_job}, IndexPromises.{IndexMeansTheSame, WrittenMeansTheIndexes}}
-use Rattle.bridge_core.proofs.{Asked.{IsBounded, bounded}, DoneAt.{IsDoneAt, done_at}, FileNames.are_written, Lies.{content_read, lies_of}}
+use Rattle.bridge_core.proofs.{Asked.{IsBounded, bounded}, DoneAt.{IsDoneAt, done_at}, FileNames.{are_written, spells_in}}
+use Rattle.bridge_core.proofs.Lies.{content_read, lies_of}
 use Rattle.bridge_core.proofs.Promises.{base_folder, holds, spelled_bytes}
 
 module _ (done : DoneIsWhole) (keeps : VerdictKeepsSteps) (names : FoldersHoldTheirFiles) (hold : FoldersHoldFiles)
@@ -37,7 +38,7 @@ module _ (done : DoneIsWhole) (keeps : VerdictKeepsSteps) (names : FoldersHoldTh
       let came = came_from (10 ^ job.digits) place first p read in
       let there : first job.mpd ≡ Some read.bytes = ap first (sym lies.file) ∙ content_read place.file first read.bytes read.there in
       let few = fewer p came in
-      let pieces : List (List ℕ × List ℕ) = playlists job.out job.digits p in
+      let pieces : List (List ℕ × List ℕ) = playlists (output_of_job job) job.digits p in
       let files : files_of course ≡ pieces = ap files_of by.goes ∙ append-nil pieces in
       let left : Some last ≡ Some (put_all pieces first) =
       sym is ∙ (done course before after run).files ∙ ap (λ fs. option_map (put_all fs) before.files) files
@@ -48,9 +49,11 @@ module _ (done : DoneIsWhole) (keeps : VerdictKeepsSteps) (names : FoldersHoldTh
         url = own place.url lies.own;
       } in
       let verified : IsVerified p job.digits = record { longest = read.longest; is = read.verified } in
-      let written : AreWritten last (job.out ++ 47 ∷ []) p job.digits = rw last_is (are_written job.out job.digits p first few) in
-      let meaning = same p job.digits last job.base (job.out ++ 47 ∷ []) came found verified few_digits.1
-      (base_folder job.base lies.is_base) (holds names hold job.out (length p.tracks) few_digits.0 few) written in
+      let written : AreWritten last (job.out ++ 47 ∷ []) (spelling_in (output_of_job job)) p job.digits =
+      rw last_is (are_written (output_of_job job) job.digits p first few) in
+      let meaning = same p job.digits last job.base (job.out ++ 47 ∷ []) (spelling_in (output_of_job job)) came found verified
+      few_digits.1 (base_folder job.base lies.is_base) (holds names hold job.out (length p.tracks) few_digits.0 few)
+      (λ t less. spells_in job.addresses job.base job.out t) written in
       record {
         bytes = read.bytes;
         url = place.url;
@@ -69,7 +72,7 @@ module _ (done : DoneIsWhole) (keeps : VerdictKeepsSteps) (names : FoldersHoldTh
   unfolding course_of index_outcome
   written_means words job input course before after first last asks was is goes run =
       let asked : IfSome (Some (jobs.HlsIndex job)) IsBounded = subst (λ asked. IfSome asked IsBounded) asks (bounded words) in
-      let by = done_at (playlists job.out job.digits) done_line (presented job) keeps before after
+      let by = done_at (playlists (output_of_job job) job.digits) done_line (presented job) keeps before after
       (store_place_of job.base job.mpd) first course
       (subst (λ asked. course_of_job asked (Some first) input ≡ Some course) asks goes) run in
       promised job course before after first last asked was is by run

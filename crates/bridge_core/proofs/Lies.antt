@@ -1,14 +1,14 @@
 -- Where a file lies under a base, and what is read there.
-use Rattle.std.proofs.Common.{◌≡◌, ◌&&◌, ℕ, List, ◌++◌, length, Option, None, Some, option_map, Result, Ok, Err, bytes_eq, inl, inr, refl}
+use Rattle.std.proofs.Common.{◌≡◌, ◌&&◌, ℕ, List, ◌++◌, length, Option, None, Some, option_map, Ok, inl, inr, refl}
 use Rattle.std.proofs.{Common.{sym, ◌∙◌, ap, subst}, lemmas.Bool.cases_Bool}
 use Rattle.std.specs.{Prelude.{is_some, nat_lt, true}, Option.option_and_then}
-use Rattle.bridge_io.proofs.Texts.{same_bytes}
 use Rattle.bridge_io.specs.{Outside.Files, Slurped.{whole_file, within}, Answer.told_as}
 use Rattle.presentation.proofs.Filling.{ok_under}
 use Rattle.url_parts.specs.Addresses.{absolute}
-use Rattle.bridge_report.specs.{Bases.{file_url, folder_url, if_written_so, is_folder, own_address}, Reading.{content_of, manifest_limit}}
+use Rattle.bridge_report.specs.{Bases.{file_url, folder_url, is_folder, own_address}, Reading.{content_of, manifest_limit}}
 use Rattle.bridge_report.specs.Refusals.{refusal_of_file}
 use Rattle.bridge_playlists.specs.{declared.place.StorePlace.StorePlace, Places.{store_place_of, store_place_with}}
+use Rattle.bridge_playlists.proofs.Places.{folder_written, written_so}
 
 -- ---- what is read
 
@@ -26,20 +26,6 @@ content_read file files bytes is =
     (told_as refusal_of_file (whole_file manifest_limit file files)) bytes is))
 
 -- ---- where it lies
-
-written_so : (text url : List ℕ) (r : Result (List ℕ) _) → if_written_so text r ≡ Some url → (r ≡ Ok url) × (url ≡ text)
-written_so text url (Ok found) is = elim (cases_Bool (bytes_eq found text)) [
-  | inl same ↦ (let e : found ≡ url = (let all = rw same at is in cc) in (ap Ok e, sym e ∙ same_bytes found text same))
-  | inr other ↦ absurd (let e = rw other at is in cc)
-]
-written_so text url (Err fault) is = absurd (cc)
-
-folder_written : (base folder : List ℕ) → folder_url base ≡ Some folder → (is_folder base ≡ true) × (folder ≡ base)
-unfolding folder_url
-folder_written base folder is = elim (cases_Bool (is_folder base)) [
-  | inl is_so ↦ (is_so, (written_so base folder (absolute base) (rw is_so at is)).1)
-  | inr other ↦ absurd (let e = rw other at is in cc)
-]
 
 url_written : (base file url : List ℕ) → file_url base file ≡ Some url → (absolute url ≡ Ok url) × (url ≡ base ++ file)
 unfolding file_url

@@ -28,14 +28,14 @@ use Rattle.laws_of_reloads.specs.{First.FirstFilesMeanTheSame, Laws.{IsFollowed,
 use Rattle.laws_of_reloads.proofs.FirstFiles.{begun_is}
 use Rattle.bridge_report.specs.{Bases.{ends_in_slash, is_folder as is_base}, Reading.{content_of, of_file}}
 use Rattle.bridge_core.specs.Courses.{course_of, course_of_job}
-use Rattle.bridge_core.specs.Hls.{Live, Static, Translation, files_of, hls_outcome, line_of, live_translation, outcome_of}
+use Rattle.bridge_core.specs.Hls.{Live, Static, Translation, files_of, hls_outcome, line_of, live_translation, outcome_of, output_of_job}
 use Rattle.bridge_core.specs.Hls.{static_translation, terms_at, translation_at, translation_by, translation_of}
 use Rattle.bridge_core.specs.Promises.{MeansTheSame, WrittenMeansTheMpd}
 use Rattle.bridge_playlists.specs.{declared.place.StorePlace.StorePlace, Places.store_place_of}
 use Rattle.bridge_steps.specs.Manifests.{ready_of, values_of}
-use Rattle.bridge_steps.specs.Playlists.{playlists}
+use Rattle.bridge_steps.specs.Playlists.{playlists, spelling_in}
 use Rattle.bridge_live.specs.LiveMpds.{live_files, told_of}
-use Rattle.bridge_core.proofs.{Asked.{IsBounded, bounded}, FileNames.{are_written, first_written}, DoneAt.{IsDoneAt, done_at}}
+use Rattle.bridge_core.proofs.{Asked.{IsBounded, bounded}, FileNames.{are_written, first_written, spells_in}, DoneAt.{IsDoneAt, done_at}}
 use Rattle.bridge_core.proofs.Lies.{Lies, content_read, lies_of}
 use Rattle.bridge_steps.proofs.Static.{IsSpelled, IsStatic, spelled_of, static_ready}
 
@@ -171,7 +171,7 @@ module _ (names : FoldersHoldTheirFiles) (hold : FoldersHoldFiles) (meant : Text
     room p few = holds names hold job.out (length p.tracks) asked.0 few
 
     static_means : (bytes : List ℕ) (p : Presented) → IsStatic (10 ^ job.digits) bytes place.url job.instant p
-        → Means job place.url bytes (put_all (files_of job.out (Static job.digits p)) first)
+        → Means job place.url bytes (put_all (files_of (output_of_job job) (Static job.digits p)) first)
     static_means bytes p read =
         let few = fewer p (of_static p read.came) in
         let found : IsFound read.came.tree read.came.url = record {
@@ -183,13 +183,16 @@ module _ (names : FoldersHoldTheirFiles) (hold : FoldersHoldFiles) (meant : Text
           text = meant bytes place.url job.instant read.came.tree read.came.mpd p read.spelled read.came.typed
               (subst (λ u. presented_of read.came.mpd u job.instant ≡ Ok p) read.at
               (subst (λ now. presented_of read.came.mpd read.came.url now ≡ Ok p) read.instant read.came.presented));
-          files = same p job.digits (put_all (playlists job.out job.digits p) first) job.base prefix read.came found
+          files = same p job.digits (put_all (playlists (output_of_job job) job.digits p) first) job.base prefix
+              (spelling_in (output_of_job job)) read.came
+              found
               (record { longest = read.longest; is = read.all }) asked.1 (base_folder job.base lies.is_base) (room p few)
-              (are_written job.out job.digits p first few);
+              (λ t less. spells_in job.addresses job.base job.out t) (are_written (output_of_job job) job.digits p first few);
         }
 
     live_means : (bytes : List ℕ) (mpd : Values) (now : ℤ) (s : State) → IsSpelled bytes mpd → job.instant ≡ Some now
-        → begun_of (terms_at job place.url) mpd now ≡ Ok s → Means job place.url bytes (put_all (files_of job.out (Live s)) first)
+        → begun_of (terms_at job place.url) mpd now ≡ Ok s
+        → Means job place.url bytes (put_all (files_of (output_of_job job) (Live s)) first)
     live_means bytes mpd now s spelled instant begun =
         let terms = terms_at job place.url in
         let is = begun_is terms mpd now s begun in let p = s.common.opened in
@@ -222,13 +225,15 @@ module _ (names : FoldersHoldTheirFiles) (hold : FoldersHoldFiles) (meant : Text
           p = p;
           text = ap (dash_meaning bytes place.url) instant
               ∙ meant bytes place.url (Some now) spelled.tree mpd p spelled.reading spelled.typed presented;
-          files = first_same terms mpd now s (put_all (live_files job.out s) first) job.base prefix followed begun
+          files = first_same terms mpd now s (put_all (live_files (output_of_job job) s) first) job.base prefix
+              (spelling_in (output_of_job job)) followed begun
               (base_folder job.base lies.is_base) (room p few)
-              (first_written job.out s first (ap (λ (s : State). s.common.accepted) is.state) (omega (arith, few, many)));
+              (λ t less. spells_in job.addresses job.base job.out t)
+              (first_written (output_of_job job) s first (ap (λ (s : State). s.common.accepted) is.state) (omega (arith, few, many)));
         }
 
     means_by : (bytes : List ℕ) (value : Translation) → IsStaticAt job place.url bytes value ⊎ IsLiveAt job place.url bytes value
-        → Means job place.url bytes (put_all (files_of job.out value) first)
+        → Means job place.url bytes (put_all (files_of (output_of_job job) value) first)
     means_by bytes value (inl static) = rw static.is (static_means bytes static.p static.read)
     means_by bytes value (inr live) = rw live.is (live_means bytes live.mpd live.now live.state live.spelled live.instant live.begun)
 
@@ -247,7 +252,7 @@ module _ (names : FoldersHoldTheirFiles) (hold : FoldersHoldFiles) (meant : Text
         (λ bytes. of_file place.file (translation_of job place.url bytes)) by.value by.is in
         let there : first job.mpd ≡ Some read.value = ap first (sym lies.file) ∙ content_read place.file first read.value read.first in
         let kind = kind_of job place.url read.value by.value (ok_under _ (translation_of job place.url read.value) by.value read.then) in
-        let pieces : List (List ℕ × List ℕ) = files_of job.out by.value in
+        let pieces : List (List ℕ × List ℕ) = files_of (output_of_job job) by.value in
         let files : course_files course ≡ pieces = ap course_files by.goes ∙ append-nil pieces in
         let left : Some last ≡ Some (put_all pieces first) =
         sym is ∙ (done course before after run).files ∙ ap (λ fs. option_map (put_all fs) before.files) files
@@ -271,6 +276,7 @@ module _ (names : FoldersHoldTheirFiles) (hold : FoldersHoldFiles) (meant : Text
     unfolding course_of hls_outcome
     written_means words job input course before after first last asks was is goes run =
         let asked : IfSome (Some (jobs.Hls job)) IsBounded = subst (λ asked. IfSome asked IsBounded) asks (bounded words) in
-        let by = done_at (files_of job.out) line_of (translation_at job) keeps before after (store_place_of job.base job.mpd) first course
+        let by = done_at (files_of (output_of_job job)) line_of (translation_at job) keeps before after
+        (store_place_of job.base job.mpd) first course
         (subst (λ asked. course_of_job asked (Some first) input ≡ Some course) asks goes) run in
         promised job course before after first last asked was is by run

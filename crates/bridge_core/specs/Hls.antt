@@ -12,7 +12,7 @@ use Rattle.bridge_playlists.specs.{declared.place.StorePlace.StorePlace, Places.
 use Rattle.bridge_steps.specs.Done.{done_line}
 use Rattle.bridge_steps.specs.Endings.{outcome_written, placed}
 use Rattle.bridge_live.specs.LiveMpds.{live_files, told_of}
-use Rattle.bridge_steps.specs.{Manifests.{ready_of, values_of}, Playlists.playlists}
+use Rattle.bridge_steps.specs.{Manifests.{ready_of, values_of}, Playlists.{OutputPlace, output_of, playlists}}
 
 -- What is written: for a static MPD its presentation, with a number of decimals; for a live one the state after it as a
 -- first update frame.
@@ -49,9 +49,13 @@ translation_at job place files =
 
 -- ---- files and the line of the report
 
-abbrev pub files_of : (out : List ℕ) → Translation → List (List ℕ × List ℕ)
-files_of out (Static digits p) = playlists out digits p
-files_of out (Live s) = live_files out s
+abbrev pub files_of : OutputPlace → Translation → List (List ℕ × List ℕ)
+files_of output (Static digits p) = playlists output digits p
+files_of output (Live s) = live_files output s
+
+-- where they are written
+abbrev pub output_of_job : HlsJob → OutputPlace
+output_of_job job = output_of job.addresses job.base job.out
 
 -- the reported presentation: for a live MPD what it lists at the time
 abbrev pub presented_in : Translation → Presented
@@ -62,7 +66,7 @@ abbrev pub line_of : Translation → List ℕ
 line_of translation = done_line (presented_in translation)
 
 abbrev pub outcome_of : HlsJob → Result Translation Named → Outcome
-outcome_of job read = outcome_written (files_of job.out) line_of read
+outcome_of job read = outcome_written (files_of (output_of_job job)) line_of read
 
 -- the MPD is at this location
 abbrev pub hls_at : HlsJob → Option Files → StorePlace → Option Outcome

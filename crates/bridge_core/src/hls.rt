@@ -14,12 +14,14 @@ ghost use Rattle.bridge_steps.specs.Endings.{JobEndsAs, around};
 ghost use Rattle.bridge_core.specs.Hls as spec;
 
 use bridge_courses::Ending;
-use bridge_io::{Bytes, Ledger, Name, NoMemory, Steps, Store, Text};
+use bridge_io::{Bytes, Ledger, NoMemory, Steps, Store, Text};
 use bridge_jobs::HlsJob;
 use bridge_live::{begin_session, write_live_files};
 use bridge_playlists::StorePlace;
 use bridge_report::{Halt, Refusal, Stop, content_of, halted};
-use bridge_steps::{Ready, done_line, place_in, ready_of, values_of, write_playlists, written};
+use bridge_steps::{
+    Output, Ready, done_line, place_in, ready_of, values_of, write_playlists, written,
+};
 use hls_writer::OutFault;
 use live_session::Session;
 use mpd_rules::Mpd;
@@ -51,7 +53,10 @@ pub fn run<F: Store, L: Ledger>(
 {
     match place_in(alloc, &job.base, &job.mpd) {
         Ok(place) => match translation_at(alloc, job, &place, store, steps) {
-            Ok(translation) => write(alloc, job, &translation, store, steps),
+            Ok(translation) => {
+                let output = Output::of(job.addresses, &place.folder, &job.out);
+                write(alloc, job, &output, &translation, store, steps)
+            }
             Err(halt) => halted(alloc, halt),
         },
         Err(told) => told,
@@ -123,20 +128,19 @@ fn live_translation<L: Ledger>(
 fn write<F: Store, L: Ledger>(
     alloc: Global,
     job: &HlsJob,
+    output: &Output<'_>,
     translation: &Translation,
     store: &mut F,
     steps: &mut Steps<L>,
 ) -> Ending
+    requires { output.now ≡ spec.output_of_job job.now }
     ensures { JobEndsAs (Some (spec.outcome_of job.now (Ok (spec.translated translation.now)))) result
         (around F.Store store.old steps.old) (around F.Store store.new steps.new) }
 {
     let Ok(line) = line_of(alloc, translation) else {
         return Ending::Memory;
     };
-    written(
-        line,
-        write_files(alloc, &job.out, translation, store, steps),
-    )
+    written(line, write_files(alloc, output, translation, store, steps))
 }
 
 /// The report line for what is written.
@@ -152,20 +156,20 @@ fn line_of(alloc: Global, translation: &Translation) -> Result<Text, NoMemory>
 /// Writes the files of an MPD, the master playlist last.
 fn write_files<F: Store, L: Ledger>(
     alloc: Global,
-    out: &Name,
+    output: &Output<'_>,
     translation: &Translation,
     store: &mut F,
     steps: &mut Steps<L>,
 ) -> Result<(), OutFault>
-    ensures ok { OnOk result (Changes (put_all (spec.files_of out.now (spec.translated translation.now))) (F.files store.old)
+    ensures ok { OnOk result (Changes (put_all (spec.files_of output.now (spec.translated translation.now))) (F.files store.old)
         (F.files store.new)) }
-    ensures err { OnErr result (AreBegun (spec.files_of out.now (spec.translated translation.now)) (F.files store.old)
+    ensures err { OnErr result (AreBegun (spec.files_of output.now (spec.translated translation.now)) (F.files store.old)
         (F.files store.new)) }
     ensures cause { HasCause WriteFault (F.write_faults store.old) (F.write_faults store.new) result }
     ensures reads { F.read_faults store.new ≡ F.read_faults store.old }
 {
     match translation {
-        Translation::Static(ready) => write_playlists(alloc, out, ready, store, steps),
-        Translation::Live(session) => write_live_files(alloc, out, session, store),
+        Translation::Static(ready) => write_playlists(alloc, output, ready, store, steps),
+        Translation::Live(session) => write_live_files(alloc, output, session, store),
     }
 }

@@ -16,7 +16,9 @@ use bridge_io::{Bytes, FileWriter, Ledger, Name, NoMemory, Steps, Store, Text};
 use bridge_jobs::MakeJob;
 use bridge_playlists::StorePlace;
 use bridge_report::{Refusal, halted};
-use bridge_steps::{Ready, file_in, mpd_in, place_in, push_seconds, write_playlists, written};
+use bridge_steps::{
+    Output, Ready, file_in, mpd_in, place_in, push_seconds, write_playlists, written,
+};
 use exact_time::Digits;
 use hls_writer::OutFault;
 use presentation::answers_allow_listings;
@@ -112,7 +114,7 @@ fn write_files<F: Store, L: Ledger>(
     ensures reads { F.read_faults store.new ≡ F.read_faults store.old }
 {
     write_source(alloc, &job.out, text, store)?;
-    write_playlists(alloc, &job.out, ready, store, steps)
+    write_playlists(alloc, &Output::absolute(&job.out), ready, store, steps)
 }
 
 /// Writes the MPD.

@@ -1,7 +1,8 @@
 -- The command of a command line.
 use Rattle.bridge_jobs.specs.declared.verb.Verb.TheVariants as verb
 use Rattle.bridge_jobs.specs.declared.jobs.Job.TheVariants as job
-use Rattle.std.specs.Prelude.{ℕ, ℤ, ◌-◌, ◌^◌, ◌==◌, ◌&&◌, ◌||◌, nat_le, Bool, codes, List, [], ◌∷◌, ◌++◌, length, if◌then◌else◌, Option, Some, None}
+use Rattle.std.specs.Prelude.{ℕ, ℤ, ◌-◌, ◌^◌, ◌==◌, ◌&&◌, ◌||◌, nat_le, Bool, codes, List, [], ◌∷◌, ◌++◌, length, if◌then◌else◌, Option}
+use Rattle.std.specs.Prelude.{Some, None}
 use Rattle.std.specs.{Char.is_ascii_digit, List.list_all}
 use Rattle.std.specs.{Prelude.{bytes_eq, option_and_then, option_map, unwrap_or, IfSome, IsTrue}, Result.result_ok}
 use Rattle.clap.specs.Words.{Row, Text, first_of}
@@ -9,6 +10,7 @@ use Rattle.iso_time.specs.{Duration.duration_of, Instant.{instant_of, IsReadable
 use Rattle.bridge_io.specs.Names.{is_name}
 use Rattle.segment_forms.specs.{declared.form.Form.Form, declared.form.Form.TheVariants.{Plain, Players}}
 use Rattle.bridge_jobs.specs.{declared.verb.Verb.Verb, declared.jobs.Job.Job, Numbers.decimal_of, Verbs.{verb_of, values_of}}
+use Rattle.bridge_jobs.specs.declared.jobs.Addresses.{Addresses, TheVariants.{Absolute, Relative}}
 use Rattle.bridge_jobs.specs.declared.jobs.{AgreeJob.AgreeJob, CheckJob.CheckJob, FollowJob.FollowJob, HlsJob.HlsJob, IndexJob.IndexJob}
 use Rattle.bridge_jobs.specs.declared.jobs.CompareJob.{CompareJob}
 use Rattle.bridge_jobs.specs.declared.jobs.{MakeJob.MakeJob, MasterJob.MasterJob, ReloadJob.ReloadJob, ShowJob.ShowJob}
@@ -40,6 +42,13 @@ abbrev pub form_in : Text → Option Form
 form_in text =
     if bytes_eq text (codes "plain") then Some Plain
     else if bytes_eq text (codes "players") then Some Players
+    else None
+
+-- `absolute` or `relative`
+abbrev pub addresses_in : Text → Option Addresses
+addresses_in text =
+    if bytes_eq text (codes "absolute") then Some Absolute
+    else if bytes_eq text (codes "relative") then Some Relative
     else None
 
 -- 1 to 10 digits, with a value below 2^32
@@ -84,6 +93,14 @@ form_or_plain (Some text) = form_in text
 unfoldable pub form_of : List Row → Option Form
 form_of rows = form_or_plain (first_of (codes "form") rows)
 
+-- by default `absolute`
+abbrev pub addresses_or_absolute : Option Text → Option Addresses
+addresses_or_absolute None = Some Absolute
+addresses_or_absolute (Some text) = addresses_in text
+
+unfoldable pub addresses_of : List Row → Option Addresses
+addresses_of rows = addresses_or_absolute (first_of (codes "addresses") rows)
+
 unfoldable pub seed_of : List Row → Option ℕ
 seed_of rows = first_of (codes "seed") rows >>= seed_in
 
@@ -96,7 +113,8 @@ hls_of rows = do
   instant ← now_of rows
   out ← out_of rows
   digits ← digits_of rows
-  Some (record { mpd = mpd; base = base; instant = instant; out = out; digits = digits })
+  addresses ← addresses_of rows
+  Some (record { mpd = mpd; base = base; instant = instant; out = out; digits = digits; addresses = addresses })
 
 unfoldable pub master_of : List Row → Option MasterJob
 master_of rows = do
@@ -112,7 +130,8 @@ follow_of rows = do
   base ← base_of rows
   out ← out_of rows
   digits ← digits_of rows
-  Some (record { name = name; base = base; out = out; digits = digits })
+  addresses ← addresses_of rows
+  Some (record { name = name; base = base; out = out; digits = digits; addresses = addresses })
 
 unfoldable pub show_of : List Row → Option ShowJob
 show_of rows = do
@@ -150,7 +169,8 @@ index_of rows = do
   base ← base_of rows
   out ← out_of rows
   digits ← digits_of rows
-  Some (record { mpd = mpd; base = base; out = out; digits = digits })
+  addresses ← addresses_of rows
+  Some (record { mpd = mpd; base = base; out = out; digits = digits; addresses = addresses })
 
 unfoldable pub agree_of : List Row → Option AgreeJob
 agree_of rows = do

@@ -8,7 +8,8 @@ use segment_forms::Form;
 ///
 /// A `base` is the URL of the directory that the store's root stands for, as it is written. An `out` is the directory
 /// of the files that are written, at most 242 bytes long. `digits` is the number of decimals of printed durations.
-/// `instant` is the time at which a live MPD is read. `form` is how an MPD gives the segments of its tracks.
+/// `instant` is the time at which a live MPD is read. `form` is how an MPD gives the segments of its tracks. `addresses`
+/// is how playlists give the URLs of their segments.
 #[derive(Drop)]
 pub enum Job {
     /// Converts an MPD to playlists.
@@ -37,6 +38,15 @@ pub enum Job {
     Compare(CompareJob),
 }
 
+/// How playlists give the URLs of their segments and init segments.
+#[derive(Clone, Copy)]
+pub enum Addresses {
+    /// As absolute URLs.
+    Absolute,
+    /// Relative to the playlist, where they lie below the base and this gives the same URL.
+    Relative,
+}
+
 /// The arguments of `hls`.
 #[derive(Drop)]
 pub struct HlsJob {
@@ -50,6 +60,8 @@ pub struct HlsJob {
     pub out: Name,
     /// The decimals of printed durations.
     pub digits: Digits,
+    /// How the playlists give URLs.
+    pub addresses: Addresses,
 }
 
 /// The arguments of the commands that convert a master playlist to an MPD.
@@ -76,6 +88,8 @@ pub struct FollowJob {
     pub out: Name,
     /// The decimals of printed durations.
     pub digits: Digits,
+    /// How the playlists give URLs.
+    pub addresses: Addresses,
 }
 
 /// The arguments of `show`.
@@ -137,6 +151,8 @@ pub struct IndexJob {
     pub out: Name,
     /// The decimals of printed durations.
     pub digits: Digits,
+    /// How the playlists give URLs.
+    pub addresses: Addresses,
 }
 
 /// The arguments of `agree`.

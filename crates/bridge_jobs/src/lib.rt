@@ -16,8 +16,8 @@ mod words;
 
 pub use frame::{Frame, FrameFault, FramePos, read_frame};
 pub use jobs::{
-    AgreeJob, CheckJob, CompareJob, FollowJob, HlsJob, IndexJob, Job, MakeJob, MasterJob,
-    ReloadJob, ShowJob,
+    Addresses, AgreeJob, CheckJob, CompareJob, FollowJob, HlsJob, IndexJob, Job, MakeJob,
+    MasterJob, ReloadJob, ShowJob,
 };
 pub use round::{BodyList, Round, read_round};
 pub use words::job;

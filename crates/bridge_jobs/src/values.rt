@@ -1,6 +1,7 @@
 // The values of a command's parameters.
 ghost use Rattle.std.specs.Prelude.{◌≡◌, ℕ, List, map, option_map, IfOk, IfSome, IsTrue};
 ghost use Rattle.bridge_jobs.specs.Given.{IsGiven};
+ghost use Rattle.bridge_jobs.specs.Jobs.{addresses_in, addresses_of};
 ghost use Rattle.bridge_jobs.specs.Jobs.{base_of, digits_in, digits_of, file_of, folder_in, form_in, form_of, is_decimal_byte};
 ghost use Rattle.bridge_jobs.specs.Jobs.{is_folder, most_of, name_in, now_of, out_of, seconds_in, seed_of, within_of};
 ghost use Rattle.std.specs.List.{list_all};
@@ -9,6 +10,7 @@ ghost use Rattle.iso_time.specs.Instant.{IsReadable};
 
 use crate::decimal::decimal;
 use crate::given::WordsFault;
+use crate::jobs::Addresses;
 use crate::verb::Verb;
 use bridge_io::{Name, Text};
 use clap::ArgMatches;
@@ -130,6 +132,17 @@ impl<'a> Values<'a> {
         }
     }
 
+    /// How playlists give URLs: `absolute` or `relative`, by default `absolute`.
+    #[tactic(auto, unfolding(crate::specs::Jobs::addresses_of))]
+    pub fn addresses(&self) -> Result<Addresses, WordsFault>
+        ensures { IsGiven (addresses_of self.now) result }
+    {
+        match self.text("addresses") {
+            Some(text) => addresses(text).ok_or(WordsFault::NoJob),
+            None => Ok(Addresses::Absolute),
+        }
+    }
+
     /// The seed of a generated MPD: 1 to 10 digits, with a value below 2^32.
     #[tactic(auto, unfolding(crate::specs::Jobs::seed_of))]
     pub fn seed(&self) -> Result<u32, WordsFault>
@@ -190,6 +203,16 @@ fn form(text: &str) -> Option<Form>
     match text {
         "plain" => Some(Form::Plain),
         "players" => Some(Form::Players),
+        _ => None,
+    }
+}
+
+fn addresses(text: &str) -> Option<Addresses>
+    ensures { result ≡ addresses_in text.now }
+{
+    match text {
+        "absolute" => Some(Addresses::Absolute),
+        "relative" => Some(Addresses::Relative),
         _ => None,
     }
 }

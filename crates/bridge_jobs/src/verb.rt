@@ -47,12 +47,13 @@ pub enum Parameter {
 
 use Parameter::{Optional, Positional, Required};
 
-static HLS: [Parameter; 5] = [
+static HLS: [Parameter; 6] = [
     Positional("mpd"),
     Required("base"),
     Optional("now"),
     Optional("out"),
     Optional("digits"),
+    Optional("addresses"),
 ];
 
 static DASH: [Parameter; 4] = [
@@ -62,11 +63,12 @@ static DASH: [Parameter; 4] = [
     Optional("form"),
 ];
 
-static FOLLOW: [Parameter; 4] = [
+static FOLLOW: [Parameter; 5] = [
     Positional("name"),
     Required("base"),
     Optional("out"),
     Optional("digits"),
+    Optional("addresses"),
 ];
 
 static SHOW: [Parameter; 4] = [
@@ -85,11 +87,12 @@ static CHECK: [Parameter; 4] = [
 
 static RELOAD: [Parameter; 3] = [Positional("old"), Positional("new"), Required("base")];
 
-static HLS_INDEX: [Parameter; 4] = [
+static HLS_INDEX: [Parameter; 5] = [
     Positional("mpd"),
     Required("base"),
     Optional("out"),
     Optional("digits"),
+    Optional("addresses"),
 ];
 
 static AGREE: [Parameter; 2] = [Positional("mpd"), Required("base")];

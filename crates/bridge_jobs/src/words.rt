@@ -91,6 +91,7 @@ fn hls(alloc: Global, values: &Values) -> Result<HlsJob, WordsFault>
         instant: values.now()?,
         out: values.out(alloc)?,
         digits: values.digits()?,
+        addresses: values.addresses()?,
     })
 }
 
@@ -117,6 +118,7 @@ fn follow(alloc: Global, values: &Values) -> Result<FollowJob, WordsFault>
         base: values.base(alloc)?,
         out: values.out(alloc)?,
         digits: values.digits()?,
+        addresses: values.addresses()?,
     })
 }
 
@@ -178,6 +180,7 @@ fn index(alloc: Global, values: &Values) -> Result<IndexJob, WordsFault>
         base: values.base(alloc)?,
         out: values.out(alloc)?,
         digits: values.digits()?,
+        addresses: values.addresses()?,
     })
 }
 

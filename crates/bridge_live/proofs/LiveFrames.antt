@@ -19,6 +19,7 @@ use Rattle.live_session.specs.{Sessions.CountsRefused, declared.session.Appended
 use Rattle.live_meaning.specs.{Updates.{Refresh, Reset, Terms, Update, Values}, States.State}
 use Rattle.bridge_report.specs.{Refusals.{refusal_text, refused_in}, declared.refusal.Refusal.Refusal, declared.refusal.Stop.Stop}
 use Rattle.bridge_steps.specs.Follow.{Accepts}
+use Rattle.bridge_steps.specs.Playlists.{OutputPlace}
 use Rattle.bridge_live.specs.LiveMpds.{IsTaken, first_appends, frame_appends, frame_state, frame_stream, followed_mpd, next_state}
 use Rattle.bridge_steps.specs.Manifests.{values_of}
 use Rattle.bridge_steps.specs.Streams.{ReadsFirst}
@@ -63,18 +64,19 @@ refused_text None m is = tt
 refused_text (Some r) m is = ap (λ answer. option_map refusal_text (result_err answer)) is
 
 -- a frame that is refused is told so
-pub refused_so : {V : Type 0} (terms : Terms) (out : List ℕ) (s : Option State) (x : Frame) (value : V → State) (result : Result V Stop)
+pub refused_so : {V : Type 0} (terms : Terms) (output : OutputPlace) (s : Option State) (x : Frame) (value : V → State)
+    (result : Result V Stop)
     → Gives value refused_in result (frame_state terms s x)
-    → IfErr result (λ stop. IfSome (refused_in stop) (λ r. (followed_mpd terms out).refusal s x ≡ Some (refusal_text r)))
-refused_so terms out s x value (Ok v) state = tt
-refused_so terms out s x value (Err stop) state = refused_text (refused_in stop) (frame_state terms s x) state
+    → IfErr result (λ stop. IfSome (refused_in stop) (λ r. (followed_mpd terms output).refusal s x ≡ Some (refusal_text r)))
+refused_so terms output s x value (Ok v) state = tt
+refused_so terms output s x value (Err stop) state = refused_text (refused_in stop) (frame_state terms s x) state
 
 -- ---- what is accepted
 
-module _ (terms : Terms) (out : List ℕ) (s : Option State) (x : Frame) (after : State) where
+module _ (terms : Terms) (output : OutputPlace) (s : Option State) (x : Frame) (after : State) where
   pub accepted_so : (n made made' : ℕ) → frame_state terms s x ≡ Ok after → n ≡ frame_appends terms s x
       → made' ≡ made + frame_appends terms s x
-      → Accepts (followed_mpd terms out) s x (Some after) n made made'
+      → Accepts (followed_mpd terms output) s x (Some after) n made made'
   accepted_so n made made' state appended counts = record {
     accepted = ap (λ answer. option_map refusal_text (result_err answer)) state;
     after = sym (ap result_ok state);

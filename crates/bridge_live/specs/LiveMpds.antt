@@ -14,7 +14,7 @@ use Rattle.live_judge.specs.{Faults.told, declared.fault.RefreshFault.RefreshFau
 use Rattle.live_session.specs.{declared.session.Appended.Appended, Sessions.text_of}
 use Rattle.bridge_report.specs.{Following.Followed, Refusals.{refusal_text, refused_in}, declared.refusal.Refusal.Refusal}
 use Rattle.bridge_report.specs.declared.refusal.Stop.{Stop}
-use Rattle.bridge_steps.specs.{Manifests.values_of, Streams.Stream}
+use Rattle.bridge_steps.specs.{Manifests.values_of, Playlists.{OutputPlace, spelling_in}, Streams.Stream}
 
 -- ---- why a frame is rejected
 
@@ -88,27 +88,30 @@ accepted_of s = option_map_or (λ s. s.common.accepted) s 0
 
 -- ---- files
 
-abbrev pub track_file : (out : List ℕ) → State → (track : ℕ) → List ℕ × List ℕ
-track_file out s t = (in_folder out (playlist_of t), text_of s t)
+abbrev pub track_text : OutputPlace → State → (track : ℕ) → List ℕ
+track_text output s t = text_of (spelling_in output t) s t
 
-abbrev pub track_files : (out : List ℕ) → State → List (List ℕ × List ℕ)
-track_files out s = map (track_file out s) (range_with_len 0 (length s.tracks))
+abbrev pub track_file : OutputPlace → State → (track : ℕ) → List ℕ × List ℕ
+track_file output s t = (in_folder output.folder (playlist_of t), track_text output s t)
+
+abbrev pub track_files : OutputPlace → State → List (List ℕ × List ℕ)
+track_files output s = map (track_file output s) (range_with_len 0 (length s.tracks))
 
 abbrev pub master_file : (out : List ℕ) → State → List ℕ × List ℕ
 master_file out s = (in_folder out (codes "master.m3u8"), master_text s.common.opened)
 
 -- the playlists of the tracks in order, and after the first accepted frame the master playlist last, which is that of the
 -- first MPD
-abbrev pub live_files : (out : List ℕ) → State → List (List ℕ × List ℕ)
-live_files out s = track_files out s ++ (if s.common.accepted == 1 then master_file out s ∷ [] else [])
+abbrev pub live_files : OutputPlace → State → List (List ℕ × List ℕ)
+live_files output s = track_files output s ++ (if s.common.accepted == 1 then master_file output.folder s ∷ [] else [])
 
 -- ---- what is followed
 
-abbrev pub followed_mpd : Terms → (out : List ℕ) → Followed (Option State) Frame
-followed_mpd terms out = record {
+abbrev pub followed_mpd : Terms → OutputPlace → Followed (Option State) Frame
+followed_mpd terms output = record {
   refusal = λ s x. option_map refusal_text (result_err (frame_state terms s x));
   after = λ s x. result_ok (frame_state terms s x);
-  files = λ s. option_map_or (live_files out) s [];
+  files = λ s. option_map_or (live_files output) s [];
   appended = frame_appends terms;
   makes = frame_appends terms;
 }

@@ -1,4 +1,5 @@
 // A followed MPD.
+ghost use Rattle.std.specs.Prelude.{◌≡◌};
 ghost use Rattle.iso_time.specs.Instant.{IsReadable};
 ghost use Rattle.bridge_jobs.specs.Frames.{now_of};
 ghost use Rattle.bridge_live.specs.LiveMpds as spec;
@@ -9,7 +10,7 @@ use bridge_io::{Ledger, Name, Source, Steps, Store};
 use bridge_jobs::laws::frames_follow;
 use bridge_jobs::{Frame, FrameFault, FramePos, read_frame};
 use bridge_report::Stop;
-use bridge_steps::{Follow, count_of};
+use bridge_steps::{Follow, Output, count_of};
 use exact_time::Digits;
 use hls_writer::OutFault;
 use live_session::Session;
@@ -23,8 +24,21 @@ pub struct LiveMpd {
     pub url: Base,
     /// The folder of the playlists.
     pub out: Name,
+    /// The URL of the store's root, where URLs are relative to the playlists; `None`: all URLs are absolute.
+    pub base: Option<Base>,
     /// The decimals of printed durations.
     pub digits: Digits,
+}
+
+impl LiveMpd {
+    fn output(&self) -> Output<'_>
+        ensures { result ≡ record { folder = self.now.out; base = self.now.base } }
+    {
+        match &self.base {
+            None => Output::absolute(&self.out),
+            Some(base) => Output::relative(base, &self.out),
+        }
+    }
 }
 
 impl Follow for LiveMpd {
@@ -32,7 +46,8 @@ impl Follow for LiveMpd {
 
     type Live = Option<Session>;
 
-    ghost told = { λ mpd. spec.followed_mpd (record { url = mpd.url; digits = mpd.digits }) mpd.out };
+    ghost told = { λ mpd. spec.followed_mpd (record { url = mpd.url; digits = mpd.digits })
+        (record { folder = mpd.out; base = mpd.base }) };
 
     ghost accepted = { λ mpd live. spec.accepted_of live };
 
@@ -75,7 +90,7 @@ impl Follow for LiveMpd {
         store: &mut F,
     ) -> Result<(), OutFault> {
         match live {
-            Some(session) => write_live_files(alloc, &self.out, session, store),
+            Some(session) => write_live_files(alloc, &self.output(), session, store),
             None => Ok(()),
         }
     }

@@ -12,7 +12,8 @@ use Rattle.presentation.specs.{declared.fault.PresentationFault.TheVariants.Memo
 use Rattle.bridge_jobs.specs.declared.jobs.IndexJob.{IndexJob}
 use Rattle.bridge_playlists.specs.{declared.place.StorePlace.StorePlace, Places.store_place_of}
 use Rattle.bridge_report.specs.{declared.refusal.Refusal.Refusal, Outcomes.Outcome, Reading.{Named, content_of, of_file}}
-use Rattle.bridge_steps.specs.{Done.done_line, Endings.{outcome_written, placed}, Manifests.checked, Playlists.playlists}
+use Rattle.bridge_steps.specs.{Done.done_line, Endings.{outcome_written, placed}, Manifests.checked}
+use Rattle.bridge_steps.specs.Playlists.{OutputPlace, output_of, playlists}
 
 -- ---- the values of the MPD
 
@@ -56,8 +57,12 @@ ready_at unit place files = and_then (content_of place.file files) (ready_in uni
 abbrev pub presented : IndexJob → StorePlace → Files → Result Presented Named
 presented job place files = ready_at (10 ^ job.digits) place files
 
+-- where the playlists are written
+abbrev pub output_of_job : IndexJob → OutputPlace
+output_of_job job = output_of job.addresses job.base job.out
+
 abbrev pub outcome_of : IndexJob → Result Presented Named → Outcome
-outcome_of job read = outcome_written (playlists job.out job.digits) done_line read
+outcome_of job read = outcome_written (playlists (output_of_job job) job.digits) done_line read
 
 -- the MPD is at this location
 abbrev pub index_at : IndexJob → Option Files → StorePlace → Option Outcome

@@ -15,7 +15,9 @@ use bridge_io::{Bytes, Ledger, Name, Steps, Store};
 use bridge_jobs::IndexJob;
 use bridge_playlists::StorePlace;
 use bridge_report::{Halt, IndexRefusal, Refusal, Stop, content_of, halted};
-use bridge_steps::{Ready, checked, done_line, place_in, tree_of, write_playlists, written};
+use bridge_steps::{
+    Output, Ready, checked, done_line, place_in, tree_of, write_playlists, written,
+};
 use exact_time::Digits;
 use index_parts::{IndexFault, index_parts};
 use mpd_rules::{IndexedMpd, rules_indexed};
@@ -35,7 +37,10 @@ pub fn run_hls_index<F: Store, L: Ledger>(
 {
     match place_in(alloc, &job.base, &job.mpd) {
         Ok(place) => match indexed_at(alloc, &place, job.digits, store, steps) {
-            Ok(ready) => write(alloc, job, &ready, store, steps),
+            Ok(ready) => {
+                let output = Output::of(job.addresses, &place.folder, &job.out);
+                write(alloc, job, &output, &ready, store, steps)
+            }
             Err(halt) => halted(alloc, halt),
         },
         Err(told) => told,
@@ -46,18 +51,20 @@ pub fn run_hls_index<F: Store, L: Ledger>(
 fn write<F: Store, L: Ledger>(
     alloc: Global,
     job: &IndexJob,
+    output: &Output<'_>,
     ready: &Ready,
     store: &mut F,
     steps: &mut Steps<L>,
 ) -> Ending
-    requires { ready.now.digits ≡ job.now.digits }
+    requires output { output.now ≡ spec.output_of_job job.now }
+    requires digits { ready.now.digits ≡ job.now.digits }
     ensures { JobEndsAs (Some (spec.outcome_of job.now (Ok ready.now.presentation))) result
         (around F.Store store.old steps.old) (around F.Store store.new steps.new) }
 {
     let Ok(line) = done_line(alloc, &ready.presentation) else {
         return Ending::Memory;
     };
-    written(line, write_playlists(alloc, &job.out, ready, store, steps))
+    written(line, write_playlists(alloc, output, ready, store, steps))
 }
 
 /// The presentation of the MPD in the file at a location, whose media files have a `sidx`, with the URL of each segment; or the

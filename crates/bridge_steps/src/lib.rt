@@ -16,6 +16,6 @@ pub use ending::{place_in, told, written};
 pub use frames::Follow;
 pub use listing::push_shown;
 pub use manifest::{Ready, checked, mpd_at, mpd_in, ready_of, tree_of, values_of};
-pub use playlists::{file_in, playlist_name, write_playlists, write_the_master};
+pub use playlists::{Output, file_in, write_playlists, write_the_master};
 pub use run::follow;
 pub use seconds::push_seconds;

@@ -4,3 +4,4 @@ pub mod Following
 pub mod Listing
 pub mod Present
 mod Sections
+pub mod Spelled

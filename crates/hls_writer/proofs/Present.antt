@@ -1,8 +1,8 @@
 -- Lines that may be missing.
 use Rattle.std.proofs.Common.{◌≡◌, ℕ, List, [], ◌∷◌, ◌++◌, flat_map, get_or, Option, None, Some, option_map, option_to_list, refl, sym, ap}
-use Rattle.std.proofs.{Common.{◌∙◌, append_assoc, replicate, if◌then◌else◌}, lemmas.List.append-nil, lemmas.List.Concat.flat_map-append}
-use Rattle.hls_writer.specs.Lines.{WrittenLine, line_text, lines_text, discontinuity, initialization, program_date_time, duration}
-use Rattle.hls_writer.specs.{Lines.{byte_range, uri}, Playlists.{Item, begins_section, front_lines, item_lines, last_lines, rise}}
+use Rattle.std.proofs.{Common.{◌∙◌, append_assoc, replicate}, lemmas.List.append-nil, lemmas.List.Concat.flat_map-append}
+use Rattle.hls_writer.specs.Lines.{WrittenLine, line_text, lines_text, discontinuity, program_date_time, duration}
+use Rattle.hls_writer.specs.{Lines.{byte_range, uri}, Playlists.{Item, front_lines, item_lines, last_lines, map_line, rise}}
 use Rattle.hls_writer.specs.{Rows.{written, all_written}, declared.line.Tag.Tag}
 
 -- the text of a line, if it is there
@@ -28,8 +28,7 @@ there_text-none lines i item at none = sym (ap there_text (sym at ∙ none))
 -- ---- the lines of a segment, one text after another
 
 abbrev front_options : (former : Option ℕ) → Item → List (Option WrittenLine)
-front_options former item = (if begins_section former item.section then Some (initialization item.map) else None)
-    ∷ option_map program_date_time item.date ∷ []
+front_options former item = map_line former item ∷ option_map program_date_time item.date ∷ []
 
 abbrev last_options : (digits : ℕ) → Item → List (Option WrittenLine)
 last_options digits item = Some (duration digits item.duration) ∷ option_map byte_range item.part.range ∷ Some (uri item.part.address) ∷ []
@@ -44,6 +43,13 @@ item_text digits former item =
     ∙ sym (flat_map-append line_text steps (front_lines former item ++ last_lines digits item))
     ∙ ap (λ lines. lines_text (steps ++ lines))
     (sym (flat_map-append option_to_list (front_options former item) (last_options digits item)))
+
+pub front_text : (former : Option ℕ) (item : Item) → lines_text (option_to_list (map_line former item))
+    ++ lines_text (option_to_list (option_map program_date_time item.date)) ≡ lines_text (front_lines former item)
+front_text former item =
+    let date = option_to_list (option_map program_date_time item.date) in
+    ap (λ lines. lines_text (option_to_list (map_line former item)) ++ lines_text lines) (sym (append-nil date))
+    ∙ sym (flat_map-append line_text (option_to_list (map_line former item)) (date ++ []))
 
 pub last_text : (digits : ℕ) (item : Item) →
     (line_text (duration digits item.duration) ++ lines_text (option_to_list (option_map byte_range item.part.range)))

@@ -1,13 +1,14 @@
 -- The segments of a section one after another.
 use Rattle.std.proofs.Common.{◌≡◌, ℕ, List, [], ◌∷◌, ◌++◌, All, Option, None, Some, Ok, IfSome, option_map, refl, sym, ap, ◌∙◌}
-use Rattle.std.proofs.{Common.append_assoc, lemmas.List.Concat.flat_map-append, lemmas.List.Elements.{All-head, All-tail}}
-use Rattle.url_parts.specs.declared.address.Part.{Part}
+use Rattle.std.proofs.{Common.append_assoc, lemmas.List.map-append, lemmas.List.Concat.flat_map-append}
+use Rattle.std.proofs.{lemmas.List.Elements.{All-head, All-tail}}
+use Rattle.url_parts.specs.{Spelling.PlaylistPlace, declared.address.Part.Part}
 use Rattle.timeline.specs.{Listed.part_of_timing, Expansions.Timing}
 use Rattle.presentation.specs.{Laws.HasAddress, Printing.{IsAtEnd, IsPassed, PrintedRest, PrintedTiming, printed_timings, rest_of}}
 use Rattle.presentation.specs.declared.parts.Content.{Content}
 use Rattle.std.specs.Option.{option_map_or}
 use Rattle.hls_writer.specs.{Finished.{content_items, item_of, items_at}, Lines.{line_text, lines_text}, Playlists.{Item, item_lines}}
-use Rattle.hls_writer.specs.Playlists.{items_lines, last_section}
+use Rattle.hls_writer.specs.{Playlists.{items_lines, last_section}, Spelled.{spelled_item, spelled_items}}
 
 -- one more item is added to what goes on to a whole text
 pub one_more : (digits : ℕ) (former : Option ℕ) (item : Item) (items : List Item) (done whole : List ℕ)
@@ -35,6 +36,15 @@ more_items digits former xs ys done whole goes =
     append_assoc done (lines_text (items_lines digits former xs)) (lines_text later)
     ∙ ap (λ t. done ++ t) (sym (flat_map-append line_text (items_lines digits former xs) later)
     ∙ ap lines_text (sym (items_append digits former xs ys))) ∙ goes
+
+-- the same with their URLs as they are written
+pub more_spelled : (place : Option PlaylistPlace) (digits : ℕ) (former : Option ℕ) (xs ys : List Item) (done whole : List ℕ)
+    → done ++ lines_text (items_lines digits former (spelled_items place (xs ++ ys))) ≡ whole
+    → (done ++ lines_text (items_lines digits former (spelled_items place xs)))
+    ++ lines_text (items_lines digits (last_section former (spelled_items place xs)) (spelled_items place ys)) ≡ whole
+more_spelled place digits former xs ys done whole goes =
+    more_items digits former (spelled_items place xs) (spelled_items place ys) done whole
+    (ap (λ items. done ++ lines_text (items_lines digits former items)) (sym (map-append (spelled_item place) xs ys)) ∙ goes)
 
 module _ (map : Part) (section : ℕ) (old new : PrintedRest) where
   abbrev pub left : PrintedRest → List Item

@@ -1,11 +1,13 @@
 -- The media playlist of a track of a VOD presentation.
-use Rattle.std.specs.{Prelude.{ℕ, ◌+◌, ◌*◌, ◌/◌, ◌%◌, ◌^◌, nat_le, max, if◌then◌else◌, List, [], map, None, Result, Ok, Err}, List.flat_map}
+use Rattle.std.specs.Prelude.{ℕ, ◌+◌, ◌*◌, ◌/◌, ◌%◌, ◌^◌, nat_le, max, if◌then◌else◌, List, [], map, Option, None, Result}
+use Rattle.std.specs.{Prelude.{Ok, Err}, List.flat_map}
 use Rattle.std.specs.Option.{option_map_or}
 use Rattle.url_parts.specs.declared.address.Part.{Part}
 use Rattle.timeline.specs.{declared.fault.ListFault.ListFault, Expansions.{SegmentTimeline, Timing}, Listed.part_of_timing}
 use Rattle.presentation.specs.{declared.parts.Content.Content, Presented.{Presented, content_at, listed_at}, Counting.sections_of}
 use Rattle.presentation.specs.{Printing.{PrintedTiming, printed_timings}, Verifying.longest_of}
-use Rattle.hls_writer.specs.Playlists.{Item, finished_text}
+use Rattle.url_parts.specs.Spelling.{PlaylistPlace}
+use Rattle.hls_writer.specs.{Playlists.{Item, finished_text}, Spelled.spelled_items}
 
 -- the part of a segment that has a URL
 abbrev pub part_or_none : Result Part ListFault → Part
@@ -46,10 +48,10 @@ rounded unit units = if nat_le unit (2 * (units % unit)) then units / unit + 1 e
 abbrev pub target_of : (unit units : ℕ) → ℕ
 target_of unit units = max 1 (rounded unit units)
 
--- the text of a track's playlist with a target duration
-abbrev pub track_text : Presented → (digits track target : ℕ) → List ℕ
-track_text p digits track target = finished_text target digits (track_items p (10 ^ digits) track)
+-- the text of a track's playlist at a place, with a target duration
+abbrev pub track_text : Option PlaylistPlace → Presented → (digits track target : ℕ) → List ℕ
+track_text place p digits track target = finished_text target digits (spelled_items place (track_items p (10 ^ digits) track))
 
--- the text of a track's playlist, whose durations have a number of digits
-unfoldable pub media_text : Presented → (digits track : ℕ) → List ℕ
-media_text p digits track = track_text p digits track (target_of (10 ^ digits) (longest_of p (10 ^ digits) track))
+-- the text of a track's playlist at a place, whose durations have a number of digits
+unfoldable pub media_text : Option PlaylistPlace → Presented → (digits track : ℕ) → List ℕ
+media_text place p digits track = track_text place p digits track (target_of (10 ^ digits) (longest_of p (10 ^ digits) track))

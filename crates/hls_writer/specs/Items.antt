@@ -1,6 +1,8 @@
 -- Playlists as they are passed in.
-use Rattle.std.specs.Prelude.{ℕ, List, map, Some}
-use Rattle.hls_writer.specs.{Playlists.{Item, Head, followed_text}, declared.items.MediaHead.MediaHead, declared.items.MediaItem.MediaItem}
+use Rattle.std.specs.Prelude.{ℕ, List, map, Option, Some}
+use Rattle.url_parts.specs.Spelling.{PlaylistPlace}
+use Rattle.hls_writer.specs.{Playlists.{Item, Head, followed_text}, Spelled.spelled_items, declared.items.MediaHead.MediaHead}
+use Rattle.hls_writer.specs.declared.items.MediaItem.{MediaItem}
 
 abbrev pub head_of : MediaHead → Head
 head_of head = record {
@@ -23,3 +25,7 @@ item_of item = record {
 -- the text of a head and items
 abbrev pub items_text : MediaHead → List MediaItem → List ℕ
 items_text head items = followed_text (head_of head) (map item_of items)
+
+-- the same in a playlist at a place
+abbrev pub spelled_text : Option PlaylistPlace → MediaHead → List MediaItem → List ℕ
+spelled_text place head items = followed_text (head_of head) (spelled_items place (map item_of items))

@@ -8,5 +8,6 @@ pub mod Master
 pub mod Playlists
 pub mod Renditions
 pub mod Rows
+pub mod Spelled
 pub mod Variants
 pub mod Verified

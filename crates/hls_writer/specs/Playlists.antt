@@ -31,10 +31,14 @@ abbrev pub begins_section : (former : Option ℕ) → ℕ → Bool
 begins_section None section = true
 begins_section (Some former) section = nat_lt former section
 
+-- the line of its init segment, where it begins a section
+abbrev pub map_line : (former : Option ℕ) → Item → Option WrittenLine
+map_line former item = if begins_section former item.section then Some (initialization item.map) else None
+
 -- the lines of a segment after those of the discontinuities
 abbrev pub own_lines : (digits : ℕ) (former : Option ℕ) → Item → List WrittenLine
 own_lines digits former item = present (
-    (if begins_section former item.section then Some (initialization item.map) else None)
+    map_line former item
     ∷ option_map program_date_time item.date
     ∷ Some (duration digits item.duration)
     ∷ option_map byte_range item.part.range
@@ -45,7 +49,7 @@ own_lines digits former item = present (
 -- the first of them, of what begins with the segment
 abbrev pub front_lines : (former : Option ℕ) → Item → List WrittenLine
 front_lines former item = present (
-    (if begins_section former item.section then Some (initialization item.map) else None)
+    map_line former item
     ∷ option_map program_date_time item.date
     ∷ []
     )

@@ -1,10 +1,11 @@
 -- Lines and segments as they are written.
 use Rattle.hls_writer.specs.declared.line.Tag.TheVariants as line
-use Rattle.std.specs.Prelude.{⊤, List, map, Option, option_map, IfSome}
+use Rattle.std.specs.Prelude.{⊤, List, map, ◌++◌, Option, option_map, IfSome}
 use Rattle.iso_time.specs.Instant.{IsWritable}
 use Rattle.hls_writer.specs.Lines.{WrittenLine, header, version, target_duration, media_sequence, discontinuity_sequence, on_demand}
 use Rattle.hls_writer.specs.{Lines.{discontinuity, initialization, program_date_time, byte_range, end_list}, Playlists.{Item, present}}
-use Rattle.hls_writer.specs.{declared.line.Tag.Tag, declared.entry.Entry.Entry}
+use Rattle.hls_writer.specs.{Spelled.spelled_part, declared.line.Tag.Tag, declared.entry.Entry.Entry}
+use Rattle.url_parts.specs.Spelling.{spelled}
 
 -- the value of a line
 abbrev pub written : Tag → WrittenLine
@@ -15,7 +16,7 @@ written (line.MediaSequence number) = media_sequence number
 written (line.DiscontinuitySequence number) = discontinuity_sequence number
 written line.OnDemand = on_demand
 written line.Discontinuity = discontinuity
-written (line.Map part) = initialization part.now
+written (line.Map address range) = initialization (record { address = address.up.now ++ address.rest.now; range = range })
 written (line.ProgramDateTime instant) = program_date_time instant
 written (line.ByteRange range) = byte_range range
 written line.EndList = end_list
@@ -24,10 +25,11 @@ written line.EndList = end_list
 abbrev pub all_written : List (Option Tag) → List WrittenLine
 all_written lines = present (map (option_map written) lines)
 
+-- the segment with its URLs as they are spelled
 abbrev pub entry_item : Entry → Item
 entry_item entry = record {
-  part = record { address = entry.address.now; range = entry.range };
-  map = entry.map.now;
+  part = record { address = spelled entry.spelling.now entry.address.now; range = entry.range };
+  map = spelled_part entry.spelling.now entry.map.now;
   duration = entry.duration;
   section = entry.section;
   date = entry.date;

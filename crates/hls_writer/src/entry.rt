@@ -1,16 +1,17 @@
 // Segments as playlists list them.
-ghost use Rattle.std.specs.Prelude.{◌≡◌, All, replicate, option_map, option_to_list, IfSome};
+ghost use Rattle.std.specs.Prelude.{◌≡◌, replicate, option_map, option_to_list, IfSome};
 ghost use Rattle.iso_time.specs.Instant.{IsWritable};
 ghost use Rattle.bridge_io.specs.Adding.{Adds};
-ghost use Rattle.hls_writer.specs.Lines.{lines_text, discontinuity, program_date_time, byte_range};
-ghost use Rattle.hls_writer.specs.Playlists.{rise, begins_section, front_lines, last_lines, item_lines};
-ghost use Rattle.hls_writer.specs.Rows.{written, all_written, entry_item, CanBeThere};
+ghost use Rattle.hls_writer.specs.Lines.{line_text, lines_text, discontinuity, program_date_time, byte_range, uri};
+ghost use Rattle.hls_writer.specs.Playlists.{rise, begins_section, map_line, front_lines, last_lines, item_lines};
+ghost use Rattle.hls_writer.specs.Rows.{entry_item};
 
-use crate::line::{Tag, push_duration, push_lines, push_uri};
+use crate::line::{Tag, push_duration, push_uri};
 use bridge_io::{Fail, Sheet, Store};
 use exact_time::Digits;
 use iso_time::Instant;
-use url_parts::{Part, Range};
+use std::alloc::Global;
+use url_parts::{Part, Range, Spelling};
 
 /// A segment as a playlist lists it.
 #[derive(Clone, Copy)]
@@ -27,6 +28,8 @@ pub struct Entry<'a> {
     pub section: u64,
     /// When it begins.
     pub date: Option<Instant>,
+    /// How its URLs are spelled.
+    pub spelling: &'a Spelling,
 }
 
 impl Entry<'_> {
@@ -34,6 +37,7 @@ impl Entry<'_> {
     pub fn push_to<F: Store>(
         &self,
         sheet: &mut Sheet<F>,
+        alloc: Global,
         digits: Digits,
         former: Option<u64>,
     ) -> Result<(), Fail>
@@ -41,47 +45,70 @@ impl Entry<'_> {
         ensures { Adds F.Store (lines_text (item_lines digits former (entry_item self.now))) sheet.old sheet.new result }
     {
         push_discontinuities(sheet, rise(former, self.section))?;
-        self.push_front(sheet, former)?;
-        self.push_last(sheet, digits)
+        self.push_front(sheet, alloc, former)?;
+        self.push_last(sheet, alloc, digits)
     }
 
     /// Writes the lines of what begins with the segment.
-    fn push_front<F: Store>(&self, sheet: &mut Sheet<F>, former: Option<u64>) -> Result<(), Fail>
+    fn push_front<F: Store>(
+        &self,
+        sheet: &mut Sheet<F>,
+        alloc: Global,
+        former: Option<u64>,
+    ) -> Result<(), Fail>
         requires { IfSome self.now.date IsWritable }
         ensures { Adds F.Store (lines_text (front_lines former (entry_item self.now))) sheet.old sheet.new result }
     {
-        if self.date.is_none() && !begins_section(former, self.section) {
+        self.push_map(sheet, alloc, former)?;
+        self.push_date(sheet)
+    }
+
+    /// Writes the line of its init segment, where it begins a section.
+    fn push_map<F: Store>(
+        &self,
+        sheet: &mut Sheet<F>,
+        alloc: Global,
+        former: Option<u64>,
+    ) -> Result<(), Fail>
+        ensures { Adds F.Store (lines_text (option_to_list (map_line former (entry_item self.now)))) sheet.old sheet.new result }
+    {
+        if !begins_section(former, self.section) {
             return Ok(());
         }
-        push_lines(sheet, &self.front(former))
+        let address = self.spelling.of(alloc, self.map.address.as_str())?;
+        let range = self.map.range;
+        Tag::Map { address, range }.push_to(sheet)
     }
 
-    fn front(&self, former: Option<u64>) -> [Option<Tag<'_>>; 2]
+    fn push_date<F: Store>(&self, sheet: &mut Sheet<F>) -> Result<(), Fail>
         requires { IfSome self.now.date IsWritable }
-        ensures written { all_written result ≡ front_lines former (entry_item self.now) }
-        ensures can { All CanBeThere result }
+        ensures { Adds F.Store (lines_text (option_to_list (option_map program_date_time self.now.date))) sheet.old sheet.new result }
     {
-        [
-            begins_section(former, self.section).then_some(Tag::Map(self.map)),
-            self.date_line(),
-        ]
-    }
-
-    fn date_line(&self) -> Option<Tag<'_>>
-        requires { IfSome self.now.date IsWritable }
-        ensures written { option_map written result ≡ option_map program_date_time self.now.date }
-        ensures can { CanBeThere result }
-    {
-        Some(Tag::ProgramDateTime(self.date?))
+        match self.date {
+            None => Ok(()),
+            Some(date) => Tag::ProgramDateTime(date).push_to(sheet),
+        }
     }
 
     /// Writes the lines of the segment itself.
-    fn push_last<F: Store>(&self, sheet: &mut Sheet<F>, digits: Digits) -> Result<(), Fail>
+    fn push_last<F: Store>(
+        &self,
+        sheet: &mut Sheet<F>,
+        alloc: Global,
+        digits: Digits,
+    ) -> Result<(), Fail>
         ensures { Adds F.Store (lines_text (last_lines digits (entry_item self.now))) sheet.old sheet.new result }
     {
         push_duration(sheet, digits, self.duration)?;
         self.push_range(sheet)?;
-        push_uri(sheet, self.address)
+        self.push_address(sheet, alloc)
+    }
+
+    fn push_address<F: Store>(&self, sheet: &mut Sheet<F>, alloc: Global) -> Result<(), Fail>
+        ensures { Adds F.Store (line_text (uri (entry_item self.now).part.address)) sheet.old sheet.new result }
+    {
+        let address = self.spelling.of(alloc, self.address)?;
+        push_uri(sheet, address)
     }
 
     fn push_range<F: Store>(&self, sheet: &mut Sheet<F>) -> Result<(), Fail>

@@ -9,6 +9,7 @@ ghost use Rattle.presentation.specs.Verifying.{verified};
 ghost use Rattle.hls_writer.specs.Verified.{IsVerified};
 ghost use Rattle.bridge_io.specs.Adding.{Adds};
 ghost use Rattle.hls_writer.specs.Finished as spec;
+ghost use Rattle.hls_writer.specs.Spelled.{spelled_item, spelled_items};
 ghost use Rattle.hls_writer.specs.Lines.{lines_text, on_demand};
 ghost use Rattle.hls_writer.specs.Playlists.{head_lines, items_lines, item_lines, last_section};
 ghost use Rattle.hls_writer.specs.Rows.{all_written, CanBeThere};
@@ -24,33 +25,34 @@ use exact_time::Digits;
 use presentation::{Longest, Presentation, PrintedSegments};
 use std::alloc::Global;
 use timeline::{AddressWriter, ListFault, Span};
-use url_parts::{Part, Range};
+use url_parts::{Part, Range, Spelling};
 
 /// Writes the media playlist of a track of a VOD presentation: each listed segment with its URL and its printed duration, an
 /// EXT-X-DISCONTINUITY for each step by which the section number rises, and an EXT-X-MAP for the first segment and for the
 /// first one of each section. The target duration is the longest printed duration, rounded to the nearest second, halves up,
-/// and at least 1.
+/// and at least 1. URLs are spelled so.
 ///
 /// Requires that the track is in range, and that `verify` returned `longest` for this presentation and these digits.
 ///
 /// An error leaves the file as it was, or with a prefix of the text. [`OutFault::WriteFault`] comes only where the store's
 /// count of failed writes rose.
-pub fn write_media<F: Store, L: Ledger>(
+pub fn write_media<'a, F: Store, L: Ledger>(
     alloc: Global,
-    presentation: &Presentation,
+    presentation: &'a Presentation,
     track: usize,
     longest: &Longest,
     digits: Digits,
+    spelling: &'a Spelling,
     store: &mut F,
     name: &Name,
     steps: &mut Steps<L>,
 ) -> Result<(), OutFault>
     requires track { track < length presentation.now.tracks }
     requires verified { verified presentation.now (10 ^ digits) ≡ Ok longest.now }
-    ensures ok { OnOk result (Changes (put name.now (spec.media_text presentation.now digits track)) (F.files store.old)
-        (F.files store.new)) }
-    ensures err { OnErr result ((F.files store.new ≡ F.files store.old)
-        ⊎ HasFront name.now (spec.media_text presentation.now digits track) (F.files store.old) (F.files store.new)) }
+    ensures ok { let text = spec.media_text spelling.now presentation.now digits track in
+        OnOk result (Changes (put name.now text) (F.files store.old) (F.files store.new)) }
+    ensures err { let text = spec.media_text spelling.now presentation.now digits track in
+        OnErr result ((F.files store.new ≡ F.files store.old) ⊎ HasFront name.now text (F.files store.old) (F.files store.new)) }
     ensures cause { HasCause WriteFault (F.write_faults store.old) (F.write_faults store.new) result }
     ensures reads { F.read_faults store.new ≡ F.read_faults store.old }
 {
@@ -59,6 +61,7 @@ pub fn write_media<F: Store, L: Ledger>(
         presentation,
         track,
         digits,
+        spelling,
     };
     write_playlist(alloc, &track, target, store, name, steps)
 }
@@ -69,6 +72,7 @@ struct WrittenTrack<'a> {
     presentation: &'a Presentation,
     track: usize,
     digits: Digits,
+    spelling: &'a Spelling,
 }
 
 /// Writes the playlist with this target duration.
@@ -82,11 +86,12 @@ fn write_playlist<F: Store, L: Ledger>(
 ) -> Result<(), OutFault>
     requires track { track.now.track < length track.now.presentation.now.tracks }
     requires verified { IsVerified track.now.presentation.now track.now.digits }
-    ensures ok { OnOk result (Changes (put name.now (spec.track_text track.now.presentation.now track.now.digits track.now.track target))
-        (F.files store.old) (F.files store.new)) }
-    ensures err { OnErr result ((F.files store.new ≡ F.files store.old)
-        ⊎ HasFront name.now (spec.track_text track.now.presentation.now track.now.digits track.now.track target) (F.files store.old)
-        (F.files store.new)) }
+    ensures ok { let text = spec.track_text track.now.spelling.now track.now.presentation.now track.now.digits
+        track.now.track target in
+        OnOk result (Changes (put name.now text) (F.files store.old) (F.files store.new)) }
+    ensures err { let text = spec.track_text track.now.spelling.now track.now.presentation.now track.now.digits
+        track.now.track target in
+        OnErr result ((F.files store.new ≡ F.files store.old) ⊎ HasFront name.now text (F.files store.old) (F.files store.new)) }
     ensures cause { HasCause WriteFault (F.write_faults store.old) (F.write_faults store.new) result }
     ensures reads { F.read_faults store.new ≡ F.read_faults store.old }
 {
@@ -106,7 +111,9 @@ fn push_playlist<F: Store, L: Ledger>(
 ) -> Result<(), Fail>
     requires track { track.now.track < length track.now.presentation.now.tracks }
     requires verified { IsVerified track.now.presentation.now track.now.digits }
-    ensures { Adds F.Store (spec.track_text track.now.presentation.now track.now.digits track.now.track target) sheet.old sheet.new result }
+    ensures { let text = spec.track_text track.now.spelling.now track.now.presentation.now track.now.digits
+        track.now.track target in
+        Adds F.Store text sheet.old sheet.new result }
 {
     push_lines(sheet, &head_lines(target))?;
     push_sections(alloc, track, sheet, steps)?;
@@ -136,7 +143,8 @@ fn push_sections<F: Store, L: Ledger>(
     requires track { track.now.track < length track.now.presentation.now.tracks }
     requires verified { IsVerified track.now.presentation.now track.now.digits }
     ensures { let items = spec.track_items track.now.presentation.now (10 ^ track.now.digits) track.now.track in
-        Adds F.Store (lines_text (items_lines track.now.digits None items)) sheet.old sheet.new result }
+        Adds F.Store (lines_text (items_lines track.now.digits None (spelled_items track.now.spelling.now items)))
+        sheet.old sheet.new result }
 {
     let mut former = None;
     for section in 0..track.presentation.sections().len() {
@@ -158,14 +166,16 @@ fn push_section<F: Store, L: Ledger>(
     requires track { track.now.track < length track.now.presentation.now.tracks }
     requires verified { IsVerified track.now.presentation.now track.now.digits }
     ensures adds { let items = spec.section_items track.now.presentation.now (10 ^ track.now.digits) track.now.track section in
-        Adds F.Store (lines_text (items_lines track.now.digits former items)) sheet.old sheet.new result }
+        Adds F.Store (lines_text (items_lines track.now.digits former (spelled_items track.now.spelling.now items)))
+        sheet.old sheet.new result }
     ensures last { let items = spec.section_items track.now.presentation.now (10 ^ track.now.digits) track.now.track section in
-        IfOk result (λ last. last ≡ last_section former items) }
+        IfOk result (λ last. last ≡ last_section former (spelled_items track.now.spelling.now items)) }
 {
     let place = InSection {
         map: track.presentation.initialization(section, track.track),
         section: section as u64,
         digits: track.digits,
+        spelling: track.spelling,
     };
     let segments = track
         .presentation
@@ -179,6 +189,7 @@ struct InSection<'a> {
     map: &'a Part,
     section: u64,
     digits: Digits,
+    spelling: &'a Spelling,
 }
 
 /// Writes the URL of a segment that has one, and returns its byte range.
@@ -235,15 +246,16 @@ fn push_segments<F: Store, L: Ledger>(
 ) -> Result<Option<u64>, Fail>
     requires { All (λ x. HasAddress segments.timeline x.times) segments.left }
     ensures adds { let items = spec.items_at segments.entry.timeline place.now.map.now place.now.section segments.entry.left in
-        Adds F.Store (lines_text (items_lines place.now.digits former items)) sheet.old sheet.new result }
+        Adds F.Store (lines_text (items_lines place.now.digits former (spelled_items place.now.spelling.now items)))
+        sheet.old sheet.new result }
     ensures last { let items = spec.items_at segments.entry.timeline place.now.map.now place.now.section segments.entry.left in
-        IfOk result (λ last. last ≡ last_section former items) }
+        IfOk result (λ last. last ≡ last_section former (spelled_items place.now.spelling.now items)) }
 {
     let mut addresses = segments.addresses(alloc)?;
     let mut former = former;
     while let Some((span, duration)) = segments.pass(steps) {
         let range = write_address(alloc, &mut addresses, &span)?;
-        push_segment(&addresses, range, duration, place, former, sheet)?;
+        push_segment(alloc, &addresses, range, duration, place, former, sheet)?;
         former = Some(place.section);
     }
     Ok(former)
@@ -251,6 +263,7 @@ fn push_segments<F: Store, L: Ledger>(
 
 /// Writes the lines of the segment whose URL was written last.
 fn push_segment<F: Store>(
+    alloc: Global,
     addresses: &AddressWriter<'_>,
     range: Option<Range>,
     duration: u64,
@@ -259,7 +272,8 @@ fn push_segment<F: Store>(
     sheet: &mut Sheet<F>,
 ) -> Result<(), Fail>
     ensures { let item = spec.item_of (part_with addresses.now.address range) place.now.map.now place.now.section duration in
-        Adds F.Store (lines_text (item_lines place.now.digits former item)) sheet.old sheet.new result }
+        Adds F.Store (lines_text (item_lines place.now.digits former (spelled_item place.now.spelling.now item)))
+        sheet.old sheet.new result }
 {
     let entry = Entry {
         address: addresses.as_str(),
@@ -268,6 +282,7 @@ fn push_segment<F: Store>(
         duration,
         section: place.section,
         date: None,
+        spelling: place.spelling,
     };
-    entry.push_to(sheet, place.digits, former)
+    entry.push_to(sheet, alloc, place.digits, former)
 }

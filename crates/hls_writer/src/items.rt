@@ -5,7 +5,8 @@ ghost use Rattle.bridge_io.specs.Outside.{put, Changes};
 ghost use Rattle.bridge_io.specs.Written.{HasFront};
 ghost use Rattle.iso_time.specs.Instant.{IsWritable};
 ghost use Rattle.bridge_io.specs.Adding.{Adds};
-ghost use Rattle.hls_writer.specs.Items.{item_of, items_text};
+ghost use Rattle.hls_writer.specs.Items.{item_of, items_text, spelled_text};
+ghost use Rattle.hls_writer.specs.Spelled.{spelled_item, spelled_items};
 ghost use Rattle.hls_writer.specs.Lines.{lines_text, discontinuity_sequence};
 ghost use Rattle.hls_writer.specs.Playlists.{head_lines, items_lines, last_section};
 ghost use Rattle.hls_writer.specs.Rows.{all_written, entry_item, CanBeThere};
@@ -18,7 +19,7 @@ use bridge_io::{Fail, FileWriter, Name, Sequence, Sheet, Store};
 use exact_time::Digits;
 use iso_time::Instant;
 use std::alloc::Global;
-use url_parts::{Address, Part, Range};
+use url_parts::{Address, Part, Range, Spelling};
 
 /// The header values of a live playlist, and whether it has EXT-X-ENDLIST.
 #[derive(Clone, Copy)]
@@ -72,8 +73,8 @@ impl MediaHead {
 }
 
 impl MediaItem {
-    fn entry(&self) -> Entry<'_>
-        ensures { entry_item result ≡ item_of self.now }
+    fn entry<'a>(&'a self, spelling: &'a Spelling) -> Entry<'a>
+        ensures { entry_item result ≡ spelled_item spelling.now (item_of self.now) }
     {
         Entry {
             address: self.address.as_str(),
@@ -82,12 +83,14 @@ impl MediaItem {
             duration: self.duration,
             section: self.section,
             date: Some(self.date),
+            spelling,
         }
     }
 }
 
 /// Writes the media playlist of a followed track: dates in UTC with milliseconds, an EXT-X-DISCONTINUITY for each step by
-/// which the section number rises, and an EXT-X-MAP for the first segment and for the first one of each section.
+/// which the section number rises, and an EXT-X-MAP for the first segment and for the first one of each section. URLs are
+/// absolute.
 ///
 /// Requires that the year of each date is 1000 to 9999. The text represents the items where the section numbers don't
 /// fall, the first one is the head's, and the items of a section have one map.
@@ -108,10 +111,11 @@ pub fn write_items<F: Store>(
     ensures cause { HasCause WriteFault (F.write_faults store.old) (F.write_faults store.new) result }
     ensures reads { F.read_faults store.new ≡ F.read_faults store.old }
 {
-    write_item_slices(alloc, head, items.as_slice(), &[], store, name)
+    let spelling = &Spelling::absolute();
+    write_item_slices(alloc, head, items.as_slice(), &[], spelling, store, name)
 }
 
-/// The same for items in two slices, those of `front` before those of `back`.
+/// The same for items in two slices, those of `front` before those of `back`, with URLs spelled so.
 ///
 /// Requires that the year of each date is 1000 to 9999.
 ///
@@ -122,20 +126,28 @@ pub fn write_item_slices<F: Store>(
     head: &MediaHead,
     front: &[MediaItem],
     back: &[MediaItem],
+    spelling: &Spelling,
     store: &mut F,
     name: &Name,
 ) -> Result<(), OutFault>
     requires front { All (λ item. IsWritable item.date) front.now }
     requires back { All (λ item. IsWritable item.date) back.now }
     ensures ok { OnOk result
-        (Changes (put name.now (items_text head.now (front.now ++ back.now))) (F.files store.old) (F.files store.new)) }
+        (Changes (put name.now (spelled_text spelling.now head.now (front.now ++ back.now))) (F.files store.old) (F.files store.new)) }
     ensures err { OnErr result ((F.files store.new ≡ F.files store.old)
-        ⊎ HasFront name.now (items_text head.now (front.now ++ back.now)) (F.files store.old) (F.files store.new)) }
+        ⊎ HasFront name.now (spelled_text spelling.now head.now (front.now ++ back.now)) (F.files store.old) (F.files store.new)) }
     ensures cause { HasCause WriteFault (F.write_faults store.old) (F.write_faults store.new) result }
     ensures reads { F.read_faults store.new ≡ F.read_faults store.old }
 {
     let writer = &mut FileWriter::create(alloc, store, name)?;
-    push_playlist(&mut Sheet { writer, store }, head, front, back)?;
+    push_playlist(
+        &mut Sheet { writer, store },
+        alloc,
+        head,
+        front,
+        back,
+        spelling,
+    )?;
     writer.flush(store)?;
     Ok(())
 }
@@ -143,16 +155,18 @@ pub fn write_item_slices<F: Store>(
 /// Writes the whole text.
 fn push_playlist<F: Store>(
     sheet: &mut Sheet<F>,
+    alloc: Global,
     head: &MediaHead,
     front: &[MediaItem],
     back: &[MediaItem],
+    spelling: &Spelling,
 ) -> Result<(), Fail>
     requires front { All (λ item. IsWritable item.date) front.now }
     requires back { All (λ item. IsWritable item.date) back.now }
-    ensures { Adds F.Store (items_text head.now (front.now ++ back.now)) sheet.old sheet.new result }
+    ensures { Adds F.Store (spelled_text spelling.now head.now (front.now ++ back.now)) sheet.old sheet.new result }
 {
     push_lines(sheet, &head.lines())?;
-    push_slices(sheet, head.digits, front, back)?;
+    push_slices(sheet, alloc, head.digits, spelling, front, back)?;
     let end = head.ended.then_some(Tag::EndList);
     push_lines(sheet, &[end])
 }
@@ -160,16 +174,19 @@ fn push_playlist<F: Store>(
 /// Writes the lines of the items of two slices, as a playlist's first ones.
 fn push_slices<F: Store>(
     sheet: &mut Sheet<F>,
+    alloc: Global,
     digits: Digits,
+    spelling: &Spelling,
     front: &[MediaItem],
     back: &[MediaItem],
 ) -> Result<(), Fail>
     requires front { All (λ item. IsWritable item.date) front.now }
     requires back { All (λ item. IsWritable item.date) back.now }
-    ensures { Adds F.Store (lines_text (items_lines digits None (map item_of (front.now ++ back.now)))) sheet.old sheet.new result }
+    ensures { let items = spelled_items spelling.now (map item_of (front.now ++ back.now)) in
+        Adds F.Store (lines_text (items_lines digits None items)) sheet.old sheet.new result }
 {
-    let former = push_items(sheet, digits, None, front)?;
-    push_items(sheet, digits, former, back)?;
+    let former = push_items(sheet, alloc, digits, spelling, None, front)?;
+    push_items(sheet, alloc, digits, spelling, former, back)?;
     Ok(())
 }
 
@@ -177,17 +194,21 @@ fn push_slices<F: Store>(
 /// the section of the last segment so far.
 fn push_items<F: Store>(
     sheet: &mut Sheet<F>,
+    alloc: Global,
     digits: Digits,
+    spelling: &Spelling,
     former: Option<u64>,
     items: &[MediaItem],
 ) -> Result<Option<u64>, Fail>
     requires { All (λ item. IsWritable item.date) items.now }
-    ensures adds { Adds F.Store (lines_text (items_lines digits former (map item_of items.now))) sheet.old sheet.new result }
-    ensures last { IfOk result (λ last. last ≡ last_section former (map item_of items.now)) }
+    ensures adds { let items = spelled_items spelling.now (map item_of items.now) in
+        Adds F.Store (lines_text (items_lines digits former items)) sheet.old sheet.new result }
+    ensures last { let items = spelled_items spelling.now (map item_of items.now) in
+        IfOk result (λ last. last ≡ last_section former items) }
 {
     let mut former = former;
     for item in items {
-        item.entry().push_to(sheet, digits, former)?;
+        item.entry(spelling).push_to(sheet, alloc, digits, former)?;
         former = Some(item.section);
     }
     Ok(former)

@@ -8,7 +8,7 @@ ghost use Rattle.hls_writer.specs.Rows.{written, all_written, CanBeWritten, CanB
 use bridge_io::{Fail, Piece, Sheet, Store};
 use exact_time::Digits;
 use iso_time::{Instant, write_instant_ms};
-use url_parts::{Part, Range};
+use url_parts::{Range, Reference};
 
 /// A line of a playlist (RFC 8216, 4.3).
 #[derive(Clone, Copy)]
@@ -28,7 +28,12 @@ pub enum Tag<'a> {
     /// EXT-X-DISCONTINUITY (4.3.2.3).
     Discontinuity,
     /// EXT-X-MAP (4.3.2.5).
-    Map(&'a Part),
+    Map {
+        /// URI, as it is written.
+        address: Reference<'a>,
+        /// BYTERANGE; `None` is the whole file.
+        range: Option<Range>,
+    },
     /// EXT-X-PROGRAM-DATE-TIME (4.3.2.6).
     ProgramDateTime(Instant),
     /// EXT-X-BYTERANGE (4.3.2.2).
@@ -60,7 +65,7 @@ impl Tag<'_> {
             ),
             Tag::OnDemand => sheet.push_pieces(&[Piece::Text(b"#EXT-X-PLAYLIST-TYPE:VOD\n")]),
             Tag::Discontinuity => sheet.push_pieces(&[Piece::Text(b"#EXT-X-DISCONTINUITY\n")]),
-            Tag::Map(part) => push_map(sheet, part),
+            Tag::Map { address, range } => push_map(sheet, address, range),
             Tag::ProgramDateTime(instant) => sheet.push_pieces(&[
                 Piece::Text(b"#EXT-X-PROGRAM-DATE-TIME:"),
                 Piece::Text(&write_instant_ms(instant)),
@@ -87,16 +92,23 @@ fn push_numbered<F: Store>(sheet: &mut Sheet<F>, tag: &[u8], number: u64) -> Res
 
 /// Writes the line of an init segment.
 #[tactic(auto, unfolding(crate::specs::Lines::line_bytes))]
-fn push_map<F: Store>(sheet: &mut Sheet<F>, part: &Part) -> Result<(), Fail>
-    ensures { Adds F.Store (line_text (initialization part.now)) sheet.old sheet.new result }
+fn push_map<F: Store>(
+    sheet: &mut Sheet<F>,
+    address: Reference<'_>,
+    range: Option<Range>,
+) -> Result<(), Fail>
+    ensures { Adds F.Store (line_text (initialization (record { address = address.entry.up.now ++ address.entry.rest.now; range = range })))
+        sheet.old sheet.new result }
 {
     let tag = Piece::Text(b"#EXT-X-MAP:URI=\"");
-    let address = Piece::Text(part.address.as_str().as_bytes());
-    match part.range {
-        None => sheet.push_pieces(&[tag, address, Piece::Text(b"\"\n")]),
+    let up = Piece::Text(address.up.as_bytes());
+    let rest = Piece::Text(address.rest.as_bytes());
+    match range {
+        None => sheet.push_pieces(&[tag, up, rest, Piece::Text(b"\"\n")]),
         Some(range) => sheet.push_pieces(&[
             tag,
-            address,
+            up,
+            rest,
             Piece::Text(b"\",BYTERANGE=\""),
             Piece::Number(range.count),
             Piece::Text(b"@"),
@@ -108,10 +120,14 @@ fn push_map<F: Store>(sheet: &mut Sheet<F>, part: &Part) -> Result<(), Fail>
 
 /// Writes the line of a URL.
 #[tactic(auto, unfolding(crate::specs::Lines::line_bytes))]
-pub fn push_uri<F: Store>(sheet: &mut Sheet<F>, address: &str) -> Result<(), Fail>
-    ensures { Adds F.Store (line_text (uri address.now)) sheet.old sheet.new result }
+pub fn push_uri<F: Store>(sheet: &mut Sheet<F>, address: Reference<'_>) -> Result<(), Fail>
+    ensures { Adds F.Store (line_text (uri (address.entry.up.now ++ address.entry.rest.now))) sheet.old sheet.new result }
 {
-    sheet.push_pieces(&[Piece::Text(address.as_bytes()), Piece::Text(b"\n")])
+    sheet.push_pieces(&[
+        Piece::Text(address.up.as_bytes()),
+        Piece::Text(address.rest.as_bytes()),
+        Piece::Text(b"\n"),
+    ])
 }
 
 /// Writes the line of a printed duration (EXTINF of RFC 8216, 4.3.2.1), in units of the last decimal.

@@ -12,12 +12,12 @@ use Rattle.hls_writer.specs.Master.{master_text}
 use Rattle.live_meaning.specs.{Updates.{Terms, Update}, States.{State, Track}, Playlists.{FollowedPlaylist, live_text, playlist_with}}
 use Rattle.live_meaning.specs.Laws.{HistoriesBegin, HistoriesGoOn, HistoriesRefuse}
 use Rattle.laws_of_reloads.specs.First.{HoldState}
-use Rattle.live_session.specs.Sessions.{text_of}
 use Rattle.mpd_presentation.specs.PresentedLaws.{PresentedAreFew}
 use Rattle.laws_of_playlists.specs.SameFiles.{master_name}
 use Rattle.bridge_report.specs.{Following.{Followed, accepted_with, course_from, next_of, unless_refused}, Refusals.refusal_text}
 use Rattle.bridge_report.specs.declared.refusal.Refusal.{Refusal}
-use Rattle.bridge_live.specs.LiveMpds.{followed_mpd, frame_state, live_files, track_files, update_of}
+use Rattle.bridge_steps.specs.Playlists.{OutputPlace, spelling_in}
+use Rattle.bridge_live.specs.LiveMpds.{followed_mpd, frame_state, live_files, track_files, track_text, update_of}
 use Rattle.bridge_core.proofs.FileNames.{file_apart, file_there, first_written, no_master}
 use Rattle.laws_of_jobs.specs.Histories.{updates_of}
 use Rattle.laws_of_jobs.proofs.FrameStates.{HasFewTracks, IsLeft, accepting, first_opens, frame_left, history_with, left_by, next_is}
@@ -30,71 +30,75 @@ some_track : (tracks : List Track) (t : ℕ) (o : Option Track) (f : Track → F
 some_track tracks t None f playlist found is = absurd (cc)
 some_track tracks t (Some track) f playlist found is = slice_get_within tracks t track found
 
-module _ (out : List ℕ) where
+module _ (output : OutputPlace) where
+  abbrev out : List ℕ
+  out = output.folder
+
   abbrev prefix : List ℕ
   prefix = out ++ 47 ∷ []
 
   module _ (s : State) (few : HasFewTracks s) where
     -- behind a later frame than the first accepted one
     later_held : (files : Files) → files (prefix ++ master_name) ≡ Some (master_text s.common.opened)
-        → HoldState (put_all (track_files out s ++ []) files) prefix s
-    later_held files master = rw (append-nil (track_files out s)) (record {
+        → HoldState (put_all (track_files output s ++ []) files) prefix (spelling_in output) s
+    later_held files master = rw (append-nil (track_files output s)) (record {
       master =
-          ap (put_all (track_files out s) files) (append_assoc out (47 ∷ []) master_name)
-          ∙ file_apart out (text_of s) 0 (length s.tracks) files (in_folder out master_name)
+          ap (put_all (track_files output s) files) (append_assoc out (47 ∷ []) master_name)
+          ∙ file_apart out (track_text output s) 0 (length s.tracks) files (in_folder out master_name)
           (λ t within from same. no_master out t (sym same))
           ∙ ap files (sym (append_assoc out (47 ∷ []) master_name)) ∙ master;
       playlists = λ t playlist is.
-          ap (put_all (track_files out s) files) (append_assoc out (47 ∷ []) (name_of t))
-          ∙ file_there out (text_of s) 0 (length s.tracks) files t (omega (arith, few)) (omega arith)
+          ap (put_all (track_files output s) files) (append_assoc out (47 ∷ []) (name_of t))
+          ∙ file_there out (track_text output s) 0 (length s.tracks) files t (omega (arith, few)) (omega arith)
           (omega (arith, some_track s.tracks t (slice_get s.tracks t) (playlist_with s.common) playlist refl is))
-          ∙ ap (λ o. Some (option_map_or live_text o [])) is;
+          ∙ ap (λ o. Some (option_map_or (live_text (spelling_in output t)) o [])) is;
     })
 
     pub held : (files : Files) → ((s.common.accepted ≡ 1 → ⊥) → files (prefix ++ master_name) ≡ Some (master_text s.common.opened))
-        → HoldState (put_all (live_files out s) files) prefix s
+        → HoldState (put_all (live_files output s) files) prefix (spelling_in output) s
     held files before = elim (cases_Bool (s.common.accepted == 1)) [
-      | inl first ↦ first_written out s files (eqb-true s.common.accepted 1 first) few
+      | inl first ↦ first_written output s files (eqb-true s.common.accepted 1 first) few
       | inr later ↦ rw later (later_held files (before (λ one. (let e = rw one at later in cc))))
     ]
 
 -- ---- frame by frame
 
-abbrev pub HoldsIfAny : (out : List ℕ) → Option State → Files → Type 0
-HoldsIfAny out None files = Unit {0}
-HoldsIfAny out (Some s) files = HasFewTracks s × HoldState files (out ++ 47 ∷ []) s
+abbrev pub HoldsIfAny : OutputPlace → Option State → Files → Type 0
+HoldsIfAny output None files = Unit {0}
+HoldsIfAny output (Some s) files = HasFewTracks s × HoldState files (output.folder ++ 47 ∷ []) (spelling_in output) s
 
 -- behind some frames: what their history left, and the files
-pub record IsBehind (terms : Terms) (out : List ℕ) (history : List Update) (files : Files) : Type 0 where
+pub record IsBehind (terms : Terms) (output : OutputPlace) (history : List Update) (files : Files) : Type 0 where
   pub state : Option State
   pub left : IsLeft terms history state
-  pub holds : HoldsIfAny out state files
+  pub holds : HoldsIfAny output state files
 
 module _ (begins : HistoriesBegin) (goes_on : HistoriesGoOn) (refuse : HistoriesRefuse) (few : PresentedAreFew)
-    (terms : Terms) (out : List ℕ) where
+    (terms : Terms) (output : OutputPlace) where
   abbrev f : Followed (Option State) Frame
-  f = followed_mpd terms out
+  f = followed_mpd terms output
 
   abbrev files_by : Result State Refusal → List (List ℕ × List ℕ)
-  files_by judged = unless_refused (option_map refusal_text (result_err judged)) (option_map_or (live_files out) (result_ok judged) []) []
+  files_by judged = unless_refused (option_map refusal_text (result_err judged)) (option_map_or (live_files output) (result_ok judged) [])
+      []
 
   -- the files of a frame hold what it leaves
   frame_held : (s : Option State) (x : Frame) (judged : Result State Refusal) (files : Files) → frame_state terms s x ≡ judged
-      → HoldsIfAny out s files → HoldsIfAny out (left_by s judged) (put_all (files_by judged) files)
+      → HoldsIfAny output s files → HoldsIfAny output (left_by s judged) (put_all (files_by judged) files)
   frame_held s x (Err r) files is holds = holds
   frame_held None x (Ok after) files is holds =
       let opens = first_opens few terms x after is in
-      (opens.few, held out after opens.few files (λ later. absurd (later opens.one)))
+      (opens.few, held output after opens.few files (λ later. absurd (later opens.one)))
   frame_held (Some s) x (Ok after) files is holds =
       let next = next_is s x after is in
       let on = state_goes_on s next.update after next.next in
       let less : HasFewTracks after = omega (arith, on.tracks, holds.0) in
-      (less, held out after less files (λ later. holds.1.master ∙ ap (λ p. Some (master_text p)) (sym on.opened)))
+      (less, held output after less files (λ later. holds.1.master ∙ ap (λ p. Some (master_text p)) (sym on.opened)))
 
   -- behind the first n frames
   pub frames_behind : (xs : List Frame) (n : ℕ) (s : Option State) (i a : ℕ) (fault : Option (List ℕ)) (history : List Update)
-      (files : Files) → IsLeft terms history s → HoldsIfAny out s files
-      → IsBehind terms out (fold (accepting terms) history (updates_of (take n xs)))
+      (files : Files) → IsLeft terms history s → HoldsIfAny output s files
+      → IsBehind terms output (fold (accepting terms) history (updates_of (take n xs)))
       (put_all (files_to n (course_from f s i a xs fault)) files)
   unfolding course_from
   frames_behind xs zero s i a fault history files left holds = record { state = s; left = left; holds = holds }
@@ -105,7 +109,7 @@ module _ (begins : HistoriesBegin) (goes_on : HistoriesGoOn) (refuse : Histories
       let rest = frames_behind xs n (left_by s judged) (i + 1) (accepted_with f s x a) fault more (put_all (files_by judged) files)
       (frame_left begins goes_on refuse terms history s x left) (frame_held s x judged files refl holds) in
       let course : Course = course_from f (next_of f s x) (i + 1) (accepted_with f s x a) xs fault in
-      subst (λ (h : List Update). IsBehind terms out h (put_all (files_by judged ++ files_to n course) files))
+      subst (λ (h : List Update). IsBehind terms output h (put_all (files_by judged ++ files_to n course) files))
       (sym (fold-append (accepting terms) history (option_to_list (result_ok (update_of x))) (updates_of (take n xs))))
-      (subst (IsBehind terms out (fold (accepting terms) more (updates_of (take n xs))))
+      (subst (IsBehind terms output (fold (accepting terms) more (updates_of (take n xs))))
       (sym (put_all-both (files_by judged) (files_to n course) files)) rest)

@@ -7,7 +7,8 @@ use Rattle.bridge_courses.specs.Courses.{Course, Step}
 use Rattle.live_meaning.specs.{Updates.{Terms, Update}, States.{State, state_of}, Laws.{HistoriesBegin, HistoriesGoOn, HistoriesRefuse}}
 use Rattle.bridge_report.specs.Following.{Followed, accepted_with, course_from, next_of, step_of}
 use Rattle.bridge_live.specs.LiveMpds.{followed_mpd, update_of}
-use Rattle.bridge_core.specs.Follow.{terms_at}
+use Rattle.bridge_steps.specs.Playlists.{OutputPlace}
+use Rattle.bridge_core.specs.Follow.{output_of_job, terms_at}
 use Rattle.laws_of_jobs.specs.{Frames.FramesAreOfTheHistory, Histories.{frames_in, history_to, updates_of}}
 use Rattle.laws_of_jobs.proofs.{Courses.{course_is, line_at_end}, FrameStates.{IsLeft, accepting, frame_left, history_with}}
 
@@ -18,9 +19,9 @@ left_is terms history None left = ap (state_of terms) left
 left_is terms history (Some s) left = left.leaves
 
 module _ (begins : HistoriesBegin) (goes_on : HistoriesGoOn) (refuse : HistoriesRefuse) where
-  module _ (terms : Terms) (out : List ℕ) where
+  module _ (terms : Terms) (output : OutputPlace) where
     abbrev f : Followed (Option State) Frame
-    f = followed_mpd terms out
+    f = followed_mpd terms output
 
     abbrev told_at : (history : List Update) (i : ℕ) → Frame → Option Step
     told_at history i x = Some (step_of f (state_of terms history) i x)
@@ -51,5 +52,5 @@ module _ (begins : HistoriesBegin) (goes_on : HistoriesGoOn) (refuse : Histories
       let terms : Terms = terms_at job place in
       let here : 0 + n ≡ n = omega arith in
       ap (λ (c : Course). slice_get c.steps n) at.is
-      ∙ step_at terms job.out (frames_in input) n None 0 0 (line_at_end input) [] x refl there
-      ∙ ap (λ k. told_at terms job.out (history_to terms n input) k x) here
+      ∙ step_at terms (output_of_job job) (frames_in input) n None 0 0 (line_at_end input) [] x refl there
+      ∙ ap (λ k. told_at terms (output_of_job job) (history_to terms n input) k x) here

@@ -7,7 +7,8 @@ use Rattle.bridge_io.specs.{InOrder.put_all, Outside.Files}
 use Rattle.bridge_jobs.specs.{declared.frame.Frame.Frame, declared.jobs.FollowJob.FollowJob}
 use Rattle.bridge_courses.specs.Courses.{files_to}
 use Rattle.mpd_presentation.specs.PresentedLaws.{PresentedAreFew}
-use Rattle.laws_of_playlists.specs.Origins.{OwnTextsAreAddresses}
+use Rattle.laws_of_playlists.specs.{Origins.OwnTextsAreAddresses, ReadMedia.Spells}
+use Rattle.url_parts.proofs.Spellings.{stands_alone}
 use Rattle.live_meaning.specs.{Updates.{Terms, Update}, States.{State, Track, state_of}}
 use Rattle.live_meaning.specs.Playlists.{FollowedPlaylist, live_text, playlist_with}
 use Rattle.live_meaning.specs.Laws.{AcceptedAreAccepted, HistoriesBegin, HistoriesGoOn, HistoriesRefuse, accepted_of, with_accepted}
@@ -15,9 +16,10 @@ use Rattle.laws_of_reloads.specs.{First.HoldState, Laws.{AreRead, FollowedTextsR
 use Rattle.bridge_report.specs.{Refusals.refusal_text, declared.refusal.Refusal.Refusal}
 use Rattle.bridge_playlists.specs.declared.place.StorePlace.{StorePlace}
 use Rattle.bridge_live.specs.LiveMpds.{next_state}
-use Rattle.bridge_core.specs.Follow.{terms_at}
+use Rattle.bridge_steps.specs.Playlists.{output_of, spelling_in}
+use Rattle.bridge_core.{proofs.FileNames.spells_in, specs.Follow.{output_of_job, terms_at}}
 use Rattle.laws_of_jobs.specs.Histories.{frames_in, history_to, state_to, updates_to}
-use Rattle.laws_of_jobs.specs.Files.{FollowedFilesAreOfTheHistory, FollowedFilesReload, HoldsHistory, prefix_of}
+use Rattle.laws_of_jobs.specs.Files.{FollowedFilesAreOfTheHistory, FollowedFilesReload, HoldsHistory, IsReadFrom, prefix_of}
 use Rattle.laws_of_jobs.proofs.{Courses.{course_is, line_at_end}, FewDigits.few_digits, FewFrames.few_frames}
 use Rattle.laws_of_jobs.proofs.FollowedFiles.{HoldsIfAny, IsBehind, frames_behind}
 use Rattle.laws_of_jobs.proofs.{FrameStates.{IsLeft, accepting, next_is, state_goes_on}, Readings.{are_read, no_more, one_more}}
@@ -25,16 +27,26 @@ use Rattle.laws_of_jobs.proofs.{FrameStates.{IsLeft, accepting, next_is, state_g
 -- ---- the files of the history
 
 module _ (job : FollowJob) (place : StorePlace) (files : Files) where
-  held_by : (history : List Update) (state : Option State) → IsLeft (terms_at job place) history state → HoldsIfAny job.out state files
-      → (history ≡ []) ⊎ ((s : State) × (state_of (terms_at job place) history ≡ Some s) × HoldState files (prefix_of job) s)
+  held_by : (history : List Update) (state : Option State) → IsLeft (terms_at job place) history state
+      → HoldsIfAny (output_of_job job) state files
+      → (history ≡ []) ⊎ ((s : State) × (state_of (terms_at job place) history ≡ Some s)
+      × HoldState files (prefix_of job) (spelling_in (output_of_job job)) s)
   held_by history None left holds = inl left
   held_by history (Some s) left holds = inr (s, left.leaves, holds.1)
 
   held_at : (n : ℕ) (input : List ℕ) (s : State) → HoldsHistory job place n input files → state_to (terms_at job place) n input ≡ Some s
-      → HoldState files (prefix_of job) s
+      → HoldState files (prefix_of job) (spelling_in (output_of_job job)) s
   unfolding state_of
   held_at n input s (inl none) is = absurd (none-some s (ap (state_of (terms_at job place)) (sym none) ∙ is))
-  held_at n input s (inr some) is = subst (HoldState files (prefix_of job)) (same_Some _ _ (sym some.1 ∙ is)) some.2
+  held_at n input s (inr some) is = subst (HoldState files (prefix_of job) (spelling_in (output_of_job job)))
+      (same_Some _ _ (sym some.1 ∙ is)) some.2
+
+-- what is written for a URL stands for it where the playlist can be read from
+spells_from : (job : FollowJob) (t : ℕ) (url : List ℕ) → IsReadFrom job t url → Spells (spelling_in (output_of_job job) t) url
+spells_from job t url (inl plain) =
+    subst (λ addresses. Spells (spelling_in (output_of addresses job.base job.out) t) url) (sym plain) (stands_alone url)
+spells_from job t url (inr own) =
+    subst (Spells (spelling_in (output_of_job job) t)) (sym own) (spells_in job.addresses job.base job.out t)
 
 -- ---- one update more
 
@@ -56,16 +68,17 @@ module _ (begins : HistoriesBegin) (goes_on : HistoriesGoOn) (refuse : Histories
       let terms : Terms = terms_at job place in
       let at = course_is words job place input course is in
       let same : put_all (files_to n course) first ≡ last = sym (same_Some _ _ changes) in
-      let behind : IsBehind terms job.out (history_to terms n input) last =
-      subst (IsBehind terms job.out (history_to terms n input)) (ap (λ c. put_all (files_to n c) first) (sym at.is) ∙ same)
-      (frames_behind begins goes_on refuse few terms job.out (frames_in input) n None 0 0 (line_at_end input) [] first refl tt) in
+      let behind : IsBehind terms (output_of_job job) (history_to terms n input) last =
+      subst (IsBehind terms (output_of_job job) (history_to terms n input)) (ap (λ c. put_all (files_to n c) first) (sym at.is) ∙ same)
+      (frames_behind begins goes_on refuse few terms (output_of_job job) (frames_in input) n None 0 0 (line_at_end input)
+      [] first refl tt) in
       held_by job place last (history_to terms n input) behind.state behind.left behind.holds
 
   -- ---- reloads
 
   module _ (accepted : AcceptedAreAccepted) (texts : FollowedTextsReload) (own : OwnTextsAreAddresses) where
     pub files_reload : FollowedFilesReload
-    files_reload words job place input course n first before after s t old from is another there was then =
+    files_reload words job place input course n first before after s t old from is read_from another there was then =
         let terms : Terms = terms_at job place in
         let updates : List Update = updates_to n input in
         let frames : List Frame = frames_in input in
@@ -88,23 +101,24 @@ module _ (begins : HistoriesBegin) (goes_on : HistoriesGoOn) (refuse : Histories
         (files_are_of_the_history words job place input course (suc n) first after is then)
         (ap (λ us. state_of terms (accepted_of terms us)) more ∙ leaves) in
         record {
-          old = live_text old;
-          new = live_text new.0;
+          old = live_text (spelling_in (output_of_job job) t) old;
+          new = live_text (spelling_in (output_of_job job) t) new.0;
           was = held.playlists t old there;
           is = held_more.playlists t new.0 new.1;
-          reloads = texts terms updates next.update t old new.0 from (record {
-            followed = record {
-              url = own place.url (course_is words job place input course is).own;
-              digits = few_digits words job is.asks;
-              read = subst AreRead more (are_read (take (suc n) frames));
-              few = omega (arith, ap length more, no_more (take (suc n) frames), length-take (suc n) frames, few_frames input);
-            };
-            accepted = none;
-            before = s;
-            leaves = another.leaves;
-            after = judged.0;
-            leaves_more = leaves;
-            old_is = there;
-            new_is = new.1;
-          });
+          reloads = texts (spelling_in (output_of_job job) t) terms updates next.update t old new.0 from (spells_from job t from read_from)
+              (record {
+                followed = record {
+                  url = own place.url (course_is words job place input course is).own;
+                  digits = few_digits words job is.asks;
+                  read = subst AreRead more (are_read (take (suc n) frames));
+                  few = omega (arith, ap length more, no_more (take (suc n) frames), length-take (suc n) frames, few_frames input);
+                };
+                accepted = none;
+                before = s;
+                leaves = another.leaves;
+                after = judged.0;
+                leaves_more = leaves;
+                old_is = there;
+                new_is = new.1;
+              });
         }

@@ -2,13 +2,14 @@
 use Rattle.std.specs.Prelude.{◌≡◌, ◌⊎◌, ℕ, suc, List, [], ◌∷◌, ◌++◌, slice_get, Some, None}
 use Rattle.bridge_io.specs.{InOrder.put_all, Outside.{Files, Changes}}
 use Rattle.bridge_jobs.specs.declared.frame.Frame.{Frame}
-use Rattle.bridge_jobs.specs.declared.jobs.FollowJob.{FollowJob}
+use Rattle.bridge_jobs.specs.declared.jobs.{Addresses.TheVariants.Absolute, FollowJob.FollowJob}
 use Rattle.bridge_courses.specs.Courses.{Course, files_to}
 use Rattle.hls_writer.specs.Attributes.{playlist_name}
 use Rattle.live_meaning.specs.{States.State, Playlists.{FollowedPlaylist, playlist_of}}
 use Rattle.laws_of_reloads.specs.{First.HoldState, Laws.Reloads}
 use Rattle.bridge_playlists.specs.declared.place.StorePlace.{StorePlace}
-use Rattle.bridge_core.specs.Follow.{terms_at}
+use Rattle.bridge_steps.specs.Playlists.{spelling_in}
+use Rattle.bridge_core.specs.Follow.{output_of_job, terms_at}
 use Rattle.laws_of_jobs.specs.Histories.{IsFollowing, followed_at, frames_in, history_to, state_to}
 
 -- ---- after some frames
@@ -17,11 +18,15 @@ use Rattle.laws_of_jobs.specs.Histories.{IsFollowing, followed_at, frames_in, hi
 abbrev pub prefix_of : FollowJob → List ℕ
 prefix_of job = job.out ++ 47 ∷ []
 
+-- a URL that a track's playlist can be read from: its own, or any one where the URLs in it are absolute
+abbrev pub IsReadFrom : FollowJob → (t : ℕ) (url : List ℕ) → Type 0
+IsReadFrom job t url = (job.addresses ≡ Absolute) ⊎ (url ≡ job.base ++ (prefix_of job ++ playlist_name t))
+
 -- none of the first n frames is accepted, or the files are those of the state after the whole accepted history
 abbrev pub HoldsHistory : FollowJob → StorePlace → (n : ℕ) (input : List ℕ) → Files → Type 0
 HoldsHistory job place n input files =
     (history_to (terms_at job place) n input ≡ [])
-    ⊎ ((s : State) × (state_to (terms_at job place) n input ≡ Some s) × HoldState files (prefix_of job) s)
+    ⊎ ((s : State) × (state_to (terms_at job place) n input ≡ Some s) × HoldState files (prefix_of job) (spelling_in (output_of_job job)) s)
 
 -- After the files of any number of frames each track's file is the playlist of the whole accepted history.
 abbrev pub FollowedFilesAreOfTheHistory : Type 0
@@ -47,12 +52,13 @@ pub record IsAnother (job : FollowJob) (place : StorePlace) (n : ℕ) (input : L
   pub next : slice_get (frames_in input) n ≡ Some frame
   pub accepted : (followed_at job place).refusal (Some s) frame ≡ None
 
--- From the second accepted frame on, each track's file is a valid update of the one before, whatever their URL.
+-- From the second accepted frame on, each track's file is a valid update of the one before, at its URL, and where URLs are absolute
+-- at each one.
 abbrev pub FollowedFilesReload : Type 0
 FollowedFilesReload =
     (words : List (List ℕ)) (job : FollowJob) (place : StorePlace) (input : List ℕ) (course : Course) (n : ℕ) (first before after : Files)
     (s : State) (t : ℕ) (playlist : FollowedPlaylist) (from : List ℕ)
-    → IsFollowing words job place input course → IsAnother job place n input s → playlist_of s t ≡ Some playlist
+    → IsFollowing words job place input course → IsReadFrom job t from → IsAnother job place n input s → playlist_of s t ≡ Some playlist
     → Changes (put_all (files_to n course)) (Some first) (Some before)
     → Changes (put_all (files_to (suc n) course)) (Some first) (Some after)
     → FileReloads (prefix_of job ++ playlist_name t) from before after

@@ -9,7 +9,7 @@ use Rattle.live_meaning.specs.{Updates.{Terms, Update}, States.{State, state_of}
 use Rattle.bridge_report.specs.Following.{Followed}
 use Rattle.bridge_playlists.specs.{Places.store_place_of, declared.place.StorePlace.StorePlace}
 use Rattle.bridge_live.specs.LiveMpds.{followed_mpd, update_of}
-use Rattle.bridge_core.specs.{Courses.course_of, Follow.terms_at}
+use Rattle.bridge_core.specs.{Courses.course_of, Follow.{output_of_job, terms_at}}
 
 -- ---- what is followed
 
@@ -21,7 +21,7 @@ pub record IsFollowing (words : List (List ℕ)) (job : FollowJob) (place : Stor
   pub goes : course_of words files (Some input) ≡ Some course
 
 abbrev pub followed_at : FollowJob → StorePlace → Followed (Option State) Frame
-followed_at job place = followed_mpd (terms_at job place) job.out
+followed_at job place = followed_mpd (terms_at job place) (output_of_job job)
 
 -- ---- what is accepted
 

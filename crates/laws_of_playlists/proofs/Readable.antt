@@ -6,14 +6,14 @@ use Rattle.std.proofs.lemmas.List.Folds.{list_all-append}
 use Rattle.std.specs.{Prelude.{decimal, ℤ}, Char.is_ascii_digit, List.{All, list_all}}
 use Rattle.iso_time.specs.{Civil.{instant_text, moment_text}, Digits.{optional_text, padded_digits}}
 use Rattle.iso_time.proofs.PaddedLemmas.{AreDigits-padded_digits}
-use Rattle.url_parts.specs.{Addresses.{IsAddress, is_address_byte}, declared.address.Part.Part, declared.range.Range.Range}
+use Rattle.url_parts.specs.{Addresses.is_address_byte, Spelling.{PlaylistPlace, StandsFor, spelled}, declared.range.Range.Range}
 use Rattle.hls_writer.specs.Lines.{WrittenLine, version, target_duration, media_sequence, discontinuity_sequence, on_demand, discontinuity}
 use Rattle.hls_writer.specs.Lines.{initialization, program_date_time, duration, byte_range, uri, end_list, line_bytes, range_attribute}
 use Rattle.hls_writer.specs.{Lines.{range_bytes, seconds_bytes}, Playlists.{Item, begins_section, end_lines, item_lines, items_lines}}
-use Rattle.hls_writer.specs.Playlists.{own_lines, present, rise}
+use Rattle.hls_writer.specs.{Playlists.{own_lines, present, rise}, Spelled.{spelled_item, spelled_items, spelled_part}}
 use Rattle.laws_of_playlists.specs.{ReadLines.{IsReadable, IsUriOrTag, ends_visibly, is_printable}, ReadMedia.IsReadableItem}
-use Rattle.laws_of_playlists.specs.ReadMedia.{IsReadablePart, IsReadableRange, IsShortDuration, IsShortNumber}
-use Rattle.laws_of_playlists.proofs.{WrittenLines.weaker, Values.{address_is, decimal_is, digits_all}}
+use Rattle.laws_of_playlists.specs.ReadMedia.{IsReadableRange, IsShortDuration, IsShortNumber, Spells}
+use Rattle.laws_of_playlists.proofs.{WrittenLines.weaker, Values.{decimal_is, digits_all}}
 
 -- a visible character of ASCII
 abbrev pub is_visible : ℕ → Bool
@@ -121,13 +121,15 @@ optional_visible : (range : Option Range) → IfSome range IsReadableRange → I
 optional_visible None is = refl
 optional_visible (Some range) is = both_visible (range_bytes range) (34 ∷ []) (range_visible range is) refl
 
-text_visible : (address : List ℕ) → IsAddress address → IsVisible address
-text_visible address is = weaker is_address_byte is_visible address_visible address (address_is [] address is).bytes
+text_visible : (text : List ℕ) → list_all is_address_byte text ≡ true → IsVisible text
+text_visible text bytes = weaker is_address_byte is_visible address_visible text bytes
 
-map_readable : (part : Part) → IsReadablePart part → IsReadable (initialization part)
+map_readable : (text : List ℕ) (range : Option Range) → list_all is_address_byte text ≡ true → IfSome range IsReadableRange
+    → IsReadable (initialization (record { address = text; range = range }))
 unfolding line_bytes
-map_readable part is = readable (initialization part) (both_visible (part.address ++ 34 ∷ []) (optional_text range_attribute part.range)
-    (both_visible part.address (34 ∷ []) (text_visible part.address is.address) refl) (optional_visible part.range is.range)) tt
+map_readable text range bytes is = readable (initialization (record { address = text; range = range }))
+    (both_visible (text ++ 34 ∷ []) (optional_text range_attribute range) (both_visible text (34 ∷ []) (text_visible text bytes) refl)
+    (optional_visible range is)) tt
 
 date_readable : (date : Option ℤ) → IfSome (option_map program_date_time date) IsReadable
 unfolding line_bytes
@@ -144,9 +146,9 @@ unfolding line_bytes
 range_readable None is = tt
 range_readable (Some range) is = readable (byte_range range) (range_visible range is) tt
 
-uri_readable : (address : List ℕ) → IsAddress address → IsReadable (uri address)
+uri_readable : (url address text : List ℕ) → StandsFor url address text → IsReadable (uri text)
 unfolding line_bytes
-uri_readable address is = readable (uri address) (text_visible address is) (address_is [] address is).begins
+uri_readable url address text stands = readable (uri text) (text_visible text stands.bytes) stands.begins
 
 -- ---- lines of items
 
@@ -159,30 +161,37 @@ one_more : (line : Option WrittenLine) (lines : List (Option WrittenLine)) → I
 one_more None lines is all = all
 one_more (Some line) lines is all = All-cons IsReadable line (present lines) is all
 
-own_readable : (digits : ℕ) (former : Option ℕ) (item : Item) → IsReadableItem digits item → All IsReadable (own_lines digits former item)
-own_readable digits former item is =
-    let date = option_map program_date_time item.date in
-    let range = option_map byte_range item.part.range in
-    let lasting = duration digits item.duration in
-    let address = uri item.part.address in
-    let from_range : List (Option WrittenLine) = range ∷ Some address ∷ [] in
-    let from_duration : List (Option WrittenLine) = Some lasting ∷ from_range in
-    one_more (cond (begins_section former item.section) (Some (initialization item.map)) None) (date ∷ from_duration)
-    (line_if (begins_section former item.section) (initialization item.map) (map_readable item.map is.map))
-    (one_more date from_duration (date_readable item.date)
-    (one_more (Some lasting) from_range (duration_readable digits item.duration is.short)
-    (one_more range (Some address ∷ []) (range_readable item.part.range is.part.range)
-    (one_more (Some address) [] (uri_readable item.part.address is.part.address) (All-nil IsReadable)))))
+module _ (place : Option PlaylistPlace) (url : List ℕ) (spells : Spells place url) where
+  own_readable : (digits : ℕ) (former : Option ℕ) (item : Item) → IsReadableItem digits item
+      → All IsReadable (own_lines digits former (spelled_item place item))
+  own_readable digits former item is =
+      let date = option_map program_date_time item.date in
+      let range = option_map byte_range item.part.range in
+      let lasting = duration digits item.duration in
+      let map = spelled_part place item.map in
+      let text = spelled place item.part.address in
+      let address = uri text in
+      let from_range : List (Option WrittenLine) = range ∷ Some address ∷ [] in
+      let from_duration : List (Option WrittenLine) = Some lasting ∷ from_range in
+      one_more (cond (begins_section former item.section) (Some (initialization map)) None) (date ∷ from_duration)
+      (line_if (begins_section former item.section) (initialization map)
+      (map_readable map.address map.range (spells item.map.address is.map.address).bytes is.map.range))
+      (one_more date from_duration (date_readable item.date)
+      (one_more (Some lasting) from_range (duration_readable digits item.duration is.short)
+      (one_more range (Some address ∷ []) (range_readable item.part.range is.part.range)
+      (one_more (Some address) [] (uri_readable url item.part.address text (spells item.part.address is.part.address))
+      (All-nil IsReadable)))))
 
-pub items_readable : (digits : ℕ) (former : Option ℕ) (items : List Item) → All (IsReadableItem digits) items
-    → All IsReadable (items_lines digits former items)
-items_readable digits former [] all = All-nil IsReadable
-items_readable digits former (item ∷ items) all =
-    let is = All-head (IsReadableItem digits) item items all in
-    let gaps = All-replicate IsReadable (rise former item.section) discontinuity discontinuity_readable in
-    All-append IsReadable (item_lines digits former item) (items_lines digits (Some item.section) items)
-    (All-append IsReadable _ (own_lines digits former item) gaps (own_readable digits former item is))
-    (items_readable digits (Some item.section) items (All-tail (IsReadableItem digits) item items all))
+  pub items_readable : (digits : ℕ) (former : Option ℕ) (items : List Item) → All (IsReadableItem digits) items
+      → All IsReadable (items_lines digits former (spelled_items place items))
+  items_readable digits former [] all = All-nil IsReadable
+  items_readable digits former (item ∷ items) all =
+      let is = All-head (IsReadableItem digits) item items all in
+      let gaps = All-replicate IsReadable (rise former item.section) discontinuity discontinuity_readable in
+      All-append IsReadable (item_lines digits former (spelled_item place item))
+      (items_lines digits (Some item.section) (spelled_items place items))
+      (All-append IsReadable _ (own_lines digits former (spelled_item place item)) gaps (own_readable digits former item is))
+      (items_readable digits (Some item.section) items (All-tail (IsReadableItem digits) item items all))
 
 pub end_lines_readable : (ended : Bool) → All IsReadable (end_lines ended)
 end_lines_readable true = All-cons IsReadable end_list [] end_readable (All-nil IsReadable)

@@ -5,14 +5,14 @@ use Rattle.bridge_io.specs.{declared.media.Kind.Kind, declared.media.Kind.TheVar
 use Rattle.url_parts.specs.Addresses.{folder_of}
 use Rattle.hls_lines.specs.Lines.{lines_of}
 use Rattle.hls_master.specs.{Masters.master_values, Tracks.TrackValue}
-use Rattle.hls_media.specs.declared.media.Media.{Media}
+use Rattle.hls_media.specs.{Media.media_values, declared.media.Media.Media}
 use Rattle.hls_meaning.specs.Meanings.{Source, file_at, hls_meaning, meaning_by, meaning_of_sources, media_at, media_by, source_of}
 use Rattle.hls_meaning.specs.Meanings.{sources_of}
 use Rattle.presentation.specs.{declared.track.Track.Track, Meanings.language_of, Presented.Presented}
 use Rattle.hls_writer.specs.{Attributes.playlist_name, Finished.media_text, Master.master_text}
 use Rattle.laws_of_playlists.specs.{Master.{Head, MasterIsRead, head_at, head_of, heads_from, told_language}, ReadMedia.TracksAreRead}
 use Rattle.laws_of_playlists.specs.{ReadMedia.track_media, Same.{AreReadFrom, ReadMeanTheSame}, SameFiles.{HoldTracks, HoldsFiles}}
-use Rattle.laws_of_playlists.specs.SameFiles.{TracksMeanTheSame, WrittenMeanTheSame, master_name}
+use Rattle.laws_of_playlists.specs.SameFiles.{TracksMeanTheSame, WrittenMeanTheSame, master_name, playlist_under}
 use Rattle.laws_of_playlists.proofs.SameFolders.{file_under, folder_under}
 
 same_language : (kind : Kind) (language : Option (List ℕ)) → told_language kind language ≡ language_of kind language
@@ -28,21 +28,21 @@ some_mapped f None y is = absurd (cc)
 some_mapped f (Some x) y is = (x, (refl, cc))
 
 module _ (p : Presented) (digits : ℕ) (files : Files) (folder prefix : List ℕ) (holds : HoldsFiles prefix (length p.tracks))
-    (tracks : HoldTracks files prefix p digits) where
+    (tracks : HoldTracks files folder prefix p digits) where
   abbrev IsFound : ℕ → (address : List ℕ) → Type 0
   IsFound t address = (media : Media) × ((media_at files folder address ≡ Some media)
       × (media.segments ≡ (track_media p digits t).segments))
 
   media_found : (t : ℕ) (address : List ℕ) → t < length p.tracks → address ≡ (folder ++ prefix) ++ playlist_name t → IsFound t address
   media_found t address within is =
-      let own = tracks.playlists t within in let read = own.reads address in
-      let there : file_at files folder address ≡ Some own.text = ap (file_at files folder) (is
-      ∙ append_assoc folder prefix (playlist_name t))
+      let own = tracks.playlists t within in let read = own.reads in
+      let at : address ≡ playlist_under folder prefix t = is ∙ append_assoc folder prefix (playlist_name t) in
+      let there : file_at files folder address ≡ Some own.text = ap (file_at files folder) at
       ∙ file_under files folder (prefix ++ playlist_name t) (holds.playlists t within) ∙ own.there in (
         read.0,
         (
           ap (λ found. option_and_then (λ bytes. media_by address (lines_of bytes)) found) there ∙ ap (media_by address) read.1.0.1.0
-              ∙ ap Some read.1.0.1.1,
+              ∙ ap Some (ap (λ url. media_values url read.1.0.0) at ∙ read.1.0.1.1),
           read.1.1,
         ),
       )
@@ -98,12 +98,18 @@ tracks_mean_the_same master same p digits files folder prefix writable own holds
     (meaning_of_sources sources.0, (meant, same p digits sources.0 writable.verified writable.few writable.ordered sources.1.1))
 
 pub written_mean_the_same : TracksMeanTheSame → TracksAreRead → WrittenMeanTheSame
-written_mean_the_same same read p digits files folder prefix readable own holds written =
+written_mean_the_same same read p digits files folder prefix place readable own holds spells written =
     same p digits files folder prefix readable.writable own holds (record {
       master = written.master;
       playlists = λ t within. record {
-        text = media_text p digits t;
+        text = media_text (place t) p digits t;
         there = written.playlists t within;
-        reads = λ url. (track_media p digits t, (read p digits t url within (readable.playlists t within), refl));
+        reads = (
+          track_media p digits t,
+          (
+            read (place t) p digits t (playlist_under folder prefix t) (spells t within) within (readable.playlists t within),
+            refl,
+          ),
+        );
       };
     })

@@ -185,10 +185,10 @@ module _ (p : Presented) (digits t : ℕ) (less : t < length p.tracks) (is : IsR
 
 pub tracks_are_read : TracksAreRead
 unfolding media_text
-tracks_are_read p digits t url less is =
+tracks_are_read place p digits t url spells less is =
     let unit = 10 ^ digits in
     let list = track_list p digits t less is (length p.sections) refl in
-    let read = finished_are_read (target_of unit (longest_of p unit t)) digits (track_items p unit t) url
+    let read = finished_are_read place (target_of unit (longest_of p unit t)) digits (track_items p unit t) url spells
     (target_short unit (longest_of p unit t) is.short)
     (record { few = is.few; each = sections_readable p digits t less is 0 (length p.sections) (omega arith); order = list.order }) in (
       read.0,

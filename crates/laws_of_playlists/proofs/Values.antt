@@ -1,7 +1,7 @@
 -- Numbers, durations, ranges and parts are read as they were written.
 use Rattle.std.proofs.Common.{◌≡◌, ℕ, unwrap_or, take, zero, suc, ◌+◌, ◌-◌, ◌*◌, ◌/◌, ◌%◌, ◌^◌, ◌<◌, ◌≤◌, ◌&&◌, Bool, true, false, List, []}
-use Rattle.std.proofs.Common.{◌∷◌, ◌++◌, length, eqb, codes, Option, Some, None, Ok, Err, IfSome, refl, sym, ◌∙◌, ap, arith, inr}
-use Rattle.std.proofs.{Math.Nat.{pow-suc, div-one, div-div-eq-div-mul}, lemmas.Bool.{and_parts, le-leb, lt-ltb}}
+use Rattle.std.proofs.Common.{◌∷◌, ◌++◌, length, eqb, codes, Option, Some, None, Ok, Err, IfSome, refl, sym, ◌∙◌, ap, arith, inl, inr}
+use Rattle.std.proofs.{Math.Nat.{pow-suc, div-one, div-div-eq-div-mul}, lemmas.Bool.{and_parts, cases_Bool, le-leb, lt-ltb}}
 use Rattle.std.proofs.{lemmas.Bool.Decides.nat_tests, lemmas.Fmt.{decimal_is_IsNumeral_wide, length-decimal-le_wide}}
 use Rattle.std.proofs.{lemmas.List.{append-nil, take_all}, lemmas.List.Folds.list_any-append, lemmas.Nat.{pow-add, div-add-mod'}}
 use Rattle.std.proofs.{lemmas.Str.digit_value_digit, lemmas.Str.Parse.{IsNumeralModel, numerals_by_value, tells_all_ascii_digits}}
@@ -10,14 +10,16 @@ use Rattle.std.specs.Str.Parse.{digits_value, digits_value_after}
 use Rattle.iso_time.specs.Digits.{padded_digits}
 use Rattle.iso_time.proofs.PaddedLemmas.{AreDigits-padded_digits}
 use Rattle.url.specs.{Parser.{Parsed, parse_url}, Parts.Parts}
-use Rattle.url_parts.specs.{Addresses.{IsAddress, absolute, accepted, is_address_byte, is_web, text_of}, declared.range.Range.Range}
+use Rattle.url_parts.specs.Addresses.{IsAddress, absolute, accepted, is_absolute, is_address_byte, is_web, resolve, text_of, url_of}
+use Rattle.url_parts.specs.Spelling.{StandsFor, begins_uri}
+use Rattle.url_parts.specs.declared.range.Range.{Range}
 use Rattle.url_parts.proofs.Bases.{at_web, bytes_from_accepted, web_from_accepted}
 use Rattle.hls_lines.specs.{Attributes.{NameValue, is_quote}, Grammar.{AreWritten, IsWritten}}
 use Rattle.hls_lines.proofs.{AttributeTexts.parts_there, Grammar.read_are_written}
 use Rattle.hls_media.specs.{Addresses.{address_of, written}, Media.map_value, Values.{before_title, decimal_parts, duration_of}}
 use Rattle.hls_media.specs.Values.{fraction_nanos, nanos_of as nanos_in, is_at, is_comma, is_point, is_run, number_of, range_from}
 use Rattle.hls_writer.specs.Lines.{range_bytes, seconds_bytes}
-use Rattle.laws_of_playlists.specs.{ReadLines.{begins_uri, map_bytes}, ReadMedia.{IsReadableRange, IsShortDuration, IsShortNumber}}
+use Rattle.laws_of_playlists.specs.{ReadLines.map_bytes, ReadMedia.{IsReadableRange, IsShortDuration, IsShortNumber}}
 use Rattle.laws_of_playlists.specs.ReadMedia.{nanos_of}
 
 -- ---- digits
@@ -176,32 +178,45 @@ pub address_is : (url address : List ℕ) → IsAddress address → IsAddressOf 
 unfolding address_of absolute
 address_is url address is = rw is.web (accepted_is (parse_url None address) address is.normal)
 
+accepted_same : (parsed : Parsed Parts) (address : List ℕ) → accepted parsed ≡ Ok address → written parsed ≡ address
+accepted_same (Err e) address is = absurd (cc)
+accepted_same (Ok url) address is = grind arith
+
+-- what a text gives in a playlist is what it is read as there
+pub given_is : (url text address : List ℕ) → resolve url text ≡ Ok address → address_of url text ≡ address
+unfolding address_of absolute resolve
+given_is url text address given = elim (cases_Bool (is_absolute text)) [
+  | inl web ↦ rw web (accepted_same (parse_url None text) address (rw web at given))
+  | inr other ↦ rw other (accepted_same (parse_url (url_of url) text) address (rw other at given))
+]
+
 unquoted : (b : ℕ) → is_address_byte b ≡ true → is_quote b ≡ false
 unquoted b address = grind (arith, nat_tests)
 
 -- ---- parts
 
-module _ (url address : List ℕ) (addressed : IsAddress address) where
-  abbrev is : IsAddressOf address (address_of url address)
-  is = address_is url address addressed
+-- a text that stands for a URL in a playlist
+module _ (url address text : List ℕ) (stands : StandsFor url address text) where
+  same : address_of url text ≡ address
+  same = given_is url text address stands.given
 
   abbrev uri_attribute : NameValue
-  uri_attribute = (codes "URI", address)
+  uri_attribute = (codes "URI", text)
 
-  uri_alone : IsWritten uri_attribute (map_bytes (record { address = address; range = None }))
+  uri_alone : IsWritten uri_attribute (map_bytes (record { address = text; range = None }))
   uri_alone = record {
-    value = 34 ∷ (address ++ 34 ∷ []);
-    is = ap (λ (t : List ℕ). codes "URI=\"" ++ t) (append-nil (address ++ 34 ∷ []));
+    value = 34 ∷ (text ++ 34 ∷ []);
+    is = ap (λ (t : List ℕ). codes "URI=\"" ++ t) (append-nil (text ++ 34 ∷ []));
     named = refl;
-    valued = inr (record { is = refl; clean = none is_address_byte is_quote unquoted address is.bytes });
+    valued = inr (record { is = refl; clean = none is_address_byte is_quote unquoted text stands.bytes });
   }
 
-  uri_written : IsWritten uri_attribute (codes "URI=\"" ++ address ++ 34 ∷ [])
+  uri_written : IsWritten uri_attribute (codes "URI=\"" ++ text ++ 34 ∷ [])
   uri_written = record {
-    value = 34 ∷ (address ++ 34 ∷ []);
+    value = 34 ∷ (text ++ 34 ∷ []);
     is = refl;
     named = refl;
-    valued = inr (record { is = refl; clean = none is_address_byte is_quote unquoted address is.bytes });
+    valued = inr (record { is = refl; clean = none is_address_byte is_quote unquoted text stands.bytes });
   }
 
   range_written : (range : Range) → IsReadableRange range
@@ -216,9 +231,9 @@ module _ (url address : List ℕ) (addressed : IsAddress address) where
 
   both_written : (range : Range) → IsReadableRange range
       → AreWritten (uri_attribute ∷ (codes "BYTERANGE", range_bytes range) ∷ [])
-      (map_bytes (record { address = address; range = Some range }))
+      (map_bytes (record { address = text; range = Some range }))
   both_written range readable = record {
-    front = codes "URI=\"" ++ address ++ 34 ∷ [];
+    front = codes "URI=\"" ++ text ++ 34 ∷ [];
     comma = 44 ∷ [];
     rest = codes "BYTERANGE=\"" ++ range_bytes range ++ 34 ∷ [];
     is = refl;
@@ -228,16 +243,16 @@ module _ (url address : List ℕ) (addressed : IsAddress address) where
   }
 
   pub map_is : (range : Option Range) → IfSome range IsReadableRange
-      → map_value url (map_bytes (record { address = address; range = range })) ≡ record { address = address; range = range }
+      → map_value url (map_bytes (record { address = text; range = range })) ≡ record { address = address; range = range }
   unfolding map_value
   map_is None readable = rw (
-    (read_are_written (map_bytes (record { address = address; range = None })) (uri_attribute ∷ [])).1 uri_alone,
-    is.same,
+    (read_are_written (map_bytes (record { address = text; range = None })) (uri_attribute ∷ [])).1 uri_alone,
+    same,
   ) refl
   map_is (Some range) readable =
       rw (
-        (read_are_written (map_bytes (record { address = address; range = Some range }))
+        (read_are_written (map_bytes (record { address = text; range = Some range }))
             (uri_attribute ∷ (codes "BYTERANGE", range_bytes range) ∷ [])).1 (both_written range readable),
-        is.same,
+        same,
         range_is (Some 0) range readable,
       ) refl

@@ -17,7 +17,8 @@ use Rattle.hls_writer.specs.{Attributes.attributes_bytes, Lines.{WrittenLine, he
 use Rattle.hls_writer.specs.Lines.{discontinuity_sequence, on_demand, discontinuity, initialization, program_date_time, duration}
 use Rattle.hls_writer.specs.Lines.{byte_range, uri, end_list, rendition, variant, line_bytes, lines_text, range_bytes, seconds_bytes}
 use Rattle.iso_time.specs.Civil.{instant_text}
-use Rattle.laws_of_playlists.specs.ReadLines.{IsReadable, IsUriOrTag, WrittenLinesAreRead, begins_uri, ends_visibly, is_printable}
+use Rattle.laws_of_playlists.specs.ReadLines.{IsReadable, IsUriOrTag, WrittenLinesAreRead, ends_visibly, is_printable}
+use Rattle.url_parts.specs.Spelling.{begins_uri}
 use Rattle.laws_of_playlists.specs.ReadLines.{map_bytes, said_at, said_from_place}
 
 -- ---- tests of each byte

@@ -1,10 +1,10 @@
 -- What written lines are read as (RFC 8216, 4.1).
 use Rattle.hls_lines.specs.Lines as said
-use Rattle.std.specs.Prelude.{◌≡◌, ℕ, ◌==◌, ◌&&◌, not, nat_le, Bool, true, false, ⊤, List, [], ◌∷◌, ◌++◌, codes, decimal, All, Ok}
+use Rattle.std.specs.Prelude.{◌≡◌, ℕ, ◌==◌, ◌&&◌, not, nat_le, Bool, true, ⊤, List, [], ◌∷◌, ◌++◌, codes, decimal, All, Ok}
 use Rattle.std.specs.List.{list_all}
 use Rattle.bridge_io.specs.declared.place.Place.{Place}
 use Rattle.iso_time.specs.{Civil.instant_text, Digits.optional_text}
-use Rattle.url_parts.specs.declared.address.Part.{Part}
+use Rattle.url_parts.specs.{Spelling.begins_uri, declared.address.Part.Part}
 use Rattle.hls_lines.specs.Lines.{PlaylistLine, behind, lines_of, start}
 use Rattle.hls_writer.specs.{Attributes.attributes_bytes, Lines.{WrittenLine, header, version, target_duration, media_sequence}}
 use Rattle.hls_writer.specs.Lines.{discontinuity_sequence, on_demand, discontinuity, initialization, program_date_time, duration}
@@ -22,11 +22,6 @@ abbrev pub ends_visibly : List ℕ → Bool
 ends_visibly [] = true
 ends_visibly (b ∷ []) = not (b == 32)
 ends_visibly (b ∷ (c ∷ bs)) = ends_visibly (c ∷ bs)
-
--- a line isn't blank, a tag or a comment
-abbrev pub begins_uri : List ℕ → Bool
-begins_uri [] = false
-begins_uri (b ∷ bs) = not (b == 35)
 
 abbrev pub IsUriOrTag : WrittenLine → Type 0
 IsUriOrTag (uri address) = begins_uri address ≡ true

@@ -1,14 +1,15 @@
 -- What written media playlists are read as (RFC 8216, 4.3.2 and 4.3.3).
 use Rattle.std.specs.Prelude.{◌≡◌, ℕ, ◌+◌, ◌-◌, ◌*◌, ◌/◌, ◌^◌, ◌<◌, ◌≤◌, true, ⊤, List, [], ◌∷◌, map, length, All, Some, Ok, IfSome, Option}
 use Rattle.std.specs.Prelude.{◌++◌, codes, decimal}
-use Rattle.url_parts.specs.{Addresses.IsAddress, declared.address.Part.Part, declared.range.Range.Range}
+use Rattle.url_parts.specs.{Addresses.IsAddress, Spelling.{PlaylistPlace, StandsFor, spelled}, declared.address.Part.Part}
+use Rattle.url_parts.specs.declared.range.Range.{Range}
 use Rattle.timeline.specs.{Expansions.Timing, Listed.part_of_timing}
 use Rattle.presentation.specs.{declared.parts.Content.Content, Presented.{Presented, is_finished}, Verifying.longest_of}
 use Rattle.hls_lines.specs.Lines.{PlaylistLine, lines_of}
 use Rattle.hls_media.specs.{Media.{map_value, media_values}, Values.{duration_of, number_of, range_from}, declared.media.Media.Media}
 use Rattle.hls_media.specs.declared.media.MediaSegment.{MediaSegment}
 use Rattle.hls_writer.specs.{Finished.{media_text, target_of, track_items}, Lines.{range_bytes, seconds_bytes}, Playlists.{Head, Item}}
-use Rattle.hls_writer.specs.{Playlists.{finished_text, followed_text}, Verified.IsVerified}
+use Rattle.hls_writer.specs.{Playlists.{finished_text, followed_text}, Spelled.spelled_items, Verified.IsVerified}
 use Rattle.laws_of_playlists.specs.ReadLines.{map_bytes}
 
 -- ---- segments that are read back as they were written
@@ -55,6 +56,10 @@ pub record AreReadable (digits : ℕ) (items : List Item) : Type 0 where
   pub each : All (IsReadableItem digits) items
   pub order : AreInOrder items
 
+-- how URLs are written in a playlist, each of which stands there for the URL
+abbrev pub Spells : Option PlaylistPlace → (playlist : List ℕ) → Type 0
+Spells place playlist = (address : List ℕ) → IsAddress address → StandsFor playlist address (spelled place address)
+
 -- ---- what they are read as
 
 -- units of which 10 to a number of digits make a second, in nanoseconds
@@ -98,9 +103,10 @@ RangesAreRead = (otherwise : Option ℕ) (range : Range) → IsReadableRange ran
 abbrev pub MapsAreRead : Type 0
 MapsAreRead = (url : List ℕ) (part : Part) → IsReadablePart part → map_value url (map_bytes part) ≡ part
 
+-- how URLs are spelled makes no difference
 abbrev pub FinishedAreRead : Type 0
-FinishedAreRead = (target digits : ℕ) (items : List Item) (url : List ℕ) → IsShortNumber target → AreReadable digits items
-    → ReadsAs (finished_text target digits items) url (record {
+FinishedAreRead = (place : Option PlaylistPlace) (target digits : ℕ) (items : List Item) (url : List ℕ) → Spells place url
+    → IsShortNumber target → AreReadable digits items → ReadsAs (finished_text target digits (spelled_items place items)) url (record {
       target = target;
       sequence = 0;
       ended = true;
@@ -112,14 +118,23 @@ pub record IsReadableHead (head : Head) : Type 0 where
   pub sequence : IsShortNumber head.sequence
   pub first_section : IsShortNumber head.first_section
 
+abbrev pub media_of_items : Head → List Item → Media
+media_of_items head items = record {
+  target = head.target;
+  sequence = head.sequence;
+  ended = head.ended;
+  segments = segments_of head.first_section head.digits items;
+}
+
 abbrev pub FollowedAreRead : Type 0
 FollowedAreRead = (head : Head) (items : List Item) (url : List ℕ) → IsReadableHead head → AreReadable head.digits items
-    → ReadsAs (followed_text head items) url (record {
-      target = head.target;
-      sequence = head.sequence;
-      ended = head.ended;
-      segments = segments_of head.first_section head.digits items;
-    })
+    → ReadsAs (followed_text head items) url (media_of_items head items)
+
+-- how URLs are spelled makes no difference
+abbrev pub SpelledAreRead : Type 0
+SpelledAreRead = (place : Option PlaylistPlace) (head : Head) (items : List Item) (url : List ℕ) → Spells place url
+    → IsReadableHead head → AreReadable head.digits items
+    → ReadsAs (followed_text head (spelled_items place items)) url (media_of_items head items)
 
 -- ---- the playlists of a presentation
 
@@ -149,5 +164,6 @@ pub record IsReadableTrack (p : Presented) (digits track : ℕ) : Type 0 where
   pub short : AreShort p digits track
 
 abbrev pub TracksAreRead : Type 0
-TracksAreRead = (p : Presented) (digits track : ℕ) (url : List ℕ) → track < length p.tracks → IsReadableTrack p digits track
-    → ReadsAs (media_text p digits track) url (track_media p digits track)
+TracksAreRead = (place : Option PlaylistPlace) (p : Presented) (digits track : ℕ) (url : List ℕ) → Spells place url
+    → track < length p.tracks → IsReadableTrack p digits track
+    → ReadsAs (media_text place p digits track) url (track_media p digits track)

@@ -1,5 +1,6 @@
 -- Which lines a written playlist has.
-use Rattle.std.proofs.Common.{◌≡◌, ℕ, zero, suc, ◌/◌, ◌%◌, ◌<◌, false, true, List, [], ◌∷◌, ◌++◌, None, Ok, refl, arith, inl, inr, eqb}
+use Rattle.std.proofs.Common.{◌≡◌, ℕ, zero, suc, ◌/◌, ◌%◌, ◌<◌, false, true, List, [], ◌∷◌, ◌++◌, None, Ok, refl, arith}
+use Rattle.std.proofs.Common.{inl, inr, eqb, subst}
 use Rattle.std.proofs.{lemmas.Bool.{cases_Bool, lt-ltb}, lemmas.Bool.Decides.nat_tests, lemmas.List.Elements.{All-append, All-cons}}
 use Rattle.std.specs.{Fmt.{digit_glyph, digits, digits_onto}, Prelude.decimal, Char.is_ascii_digit, List.{All, list_all}}
 use Rattle.hls_lines.specs.Lines.{lines_of, start}
@@ -7,6 +8,8 @@ use Rattle.hls_writer.specs.Lines.{WrittenLine, version, target_duration, media_
 use Rattle.hls_writer.specs.Playlists.{Head, Item, end_lines, followed_text, items_lines, media_lines}
 use Rattle.laws_of_playlists.specs.{ReadLines.{IsReadable, said_from_place}, ReadMedia.{IsReadableItem, IsShortNumber}}
 use Rattle.laws_of_playlists.proofs.Readable.{end_lines_readable, is_visible, items_readable, readable, sequence_readable, target_readable}
+use Rattle.url_parts.proofs.Spellings.{stands_alone}
+use Rattle.hls_writer.proofs.Spelled.{plain_items}
 use Rattle.laws_of_playlists.proofs.{Readable.version_readable, WrittenLines.{weaker, written_are_read}}
 
 glyph : (d : ℕ) → d < 10 → is_ascii_digit (digit_glyph false d) ≡ true
@@ -48,5 +51,7 @@ lines_are head items target sequence all =
     (All-cons IsReadable (target_duration head.target) from_sequence (target_readable head.target target)
     (All-cons IsReadable (media_sequence head.sequence) from_kind (sequence_readable head.sequence sequence)
     (All-cons IsReadable (discontinuity_sequence head.first_section) body (section_readable head.first_section)
-    (All-append IsReadable (items_lines head.digits None items) (end_lines head.ended) (items_readable head.digits None items all)
+    (All-append IsReadable (items_lines head.digits None items) (end_lines head.ended)
+    (subst (λ (written : List Item). All IsReadable (items_lines head.digits None written)) (plain_items items)
+    (items_readable None [] (stands_alone []) head.digits None items all))
     (end_lines_readable head.ended))))))

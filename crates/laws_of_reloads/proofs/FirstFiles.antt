@@ -24,7 +24,7 @@ use Rattle.live_meaning.specs.Refusals.{begun_of, first_refusal_of}
 use Rattle.live_meaning.proofs.{Accepted.{placed_at, first_in_force}, Orders.period_own}
 use Rattle.live_meaning.proofs.Histories.{ranged, told-segments, IsFirst, first_allowed, begun_from}
 use Rattle.laws_of_playlists.specs.{ReadMedia.{segment_in, track_media}, Origins.{AreInPace, CameFromMpd, TracksAreWritable}}
-use Rattle.laws_of_playlists.specs.SameFiles.{TracksMeanTheSame}
+use Rattle.laws_of_playlists.specs.SameFiles.{TracksMeanTheSame, playlist_under}
 use Rattle.laws_of_playlists.proofs.SameStatic.{in_turn}
 use Rattle.laws_of_reloads.specs.{First.FirstFilesMeanTheSame, Laws.{FollowedTextsAreRead, IsRead}}
 
@@ -114,7 +114,7 @@ module _ (differ : PeriodIdsDiffer) (periods : SectionsArePeriods) (begins : His
     (writable : TracksAreWritable) (paced : AreInPace) (texts : FollowedTextsAreRead) (same : TracksMeanTheSame) where
   pub first_files_mean_the_same : FirstFilesMeanTheSame
   unfolding verified
-  first_files_mean_the_same terms mpd now s files folder prefix followed begun own holds held =
+  first_files_mean_the_same terms mpd now s files folder prefix place followed begun own holds spells held =
       let is = begun_is terms mpd now s begun in let p = is.p in let digits = terms.digits in
       let c : Common = begun_common terms mpd now p in
       let read : IsRead mpd = followed.read 0 (Refresh mpd now) (omega arith) in
@@ -143,7 +143,8 @@ module _ (differ : PeriodIdsDiffer) (periods : SectionsArePeriods) (begins : His
             let segments = track_read (numbering_of c) p digits t refl (λ r in_sections. place_at_first p r known.last.once in_sections)
             (λ r in_sections. meant p (10 ^ digits) r t verified.longest verified.is in_sections less) in
             let own = subst (λ (q : Presented). (media_of playlist).segments ≡ (track_media q digits t).segments) (sym opened) segments in
-            let reads = λ (url : List ℕ). texts terms (Refresh mpd now ∷ []) s t playlist url followed shows there in
+            let reads = texts (place t) terms (Refresh mpd now ∷ []) s t playlist (playlist_under folder prefix t)
+            (spells t within) followed shows there in
             let written = held.playlists t playlist there in
-            record { text = live_text playlist; there = written; reads = λ url. (media_of playlist, (reads url, own)) };
+            record { text = live_text (place t) playlist; there = written; reads = (media_of playlist, (reads, own)) };
       })

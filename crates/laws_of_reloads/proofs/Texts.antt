@@ -30,14 +30,14 @@ use Rattle.live_meaning.specs.Segments.{Numbering, Segment, behind, is_later, li
 use Rattle.live_meaning.specs.{States.{Track, track_of, shown, state_of}, Refusals.{is_new_at, new_at, urls_in, update_refusal}}
 use Rattle.live_meaning.specs.Laws.{IsAccepted, AcceptedAreAccepted, AreTyped, DurationsFitTarget, IsTyped, NumbersStaySmall}
 use Rattle.live_meaning.specs.Laws.{ReloadsAreLawful, SectionsHaveOneMap, SectionsNeverFall, Shows, accepted_of, media_of, segment_of}
-use Rattle.live_meaning.specs.{Laws.with_accepted, Playlists.{FollowedPlaylist, first_section, head_of, item_of, live_text, playlist_with}}
+use Rattle.live_meaning.specs.{Laws.with_accepted, Playlists.{FollowedPlaylist, first_section, item_of, live_text, playlist_with}}
 use Rattle.live_meaning.proofs.Histories.{EachBehind, forced, accepted_hold, Each, get_drop, kept_segments, told-segments, unmapped}
 use Rattle.live_meaning.proofs.{Histories.sound, Orders.{behind_have, listed_have, made_in}, Playlists.shown_playlist}
 use Rattle.laws_of_playlists.specs.Origins.{AreInPace, AreShortInPace, CameFromMpd, AreLocated, InitializationsAreLocated, IsFound}
 use Rattle.laws_of_playlists.specs.Origins.{IsLocated, PartsAreLocated, ReadingsAreOfBytes}
-use Rattle.laws_of_playlists.specs.ReadMedia.{AreInOrder, FollowedAreRead, GoOn, IsReadableItem, ReadsAs}
+use Rattle.laws_of_playlists.specs.ReadMedia.{AreInOrder, GoOn, IsReadableItem, ReadsAs, SpelledAreRead, Spells}
 use Rattle.laws_of_playlists.proofs.OriginKept.{are_untold}
-use Rattle.url_parts.specs.Addresses.{IsAddress}
+use Rattle.url_parts.specs.{Addresses.IsAddress}
 use Rattle.timeline.specs.{Expansions.{SegmentTimeline, Timing}, Listed.part_of_timing}
 use Rattle.followed.specs.Durations.{Last, durations, told}
 use Rattle.laws_of_reloads.specs.Laws.{IsRead, IsReadIfAny, AreRead, FollowedTextsAreRead, FollowedTextsReload, IsFollowed}
@@ -239,15 +239,21 @@ each_read : (history : List Update) → AreRead history → (front : List Update
 each_read history read front u back same =
     grind (arith, same, read (length front) u, get_or_at front u back u (length front), length-append front (u ∷ back))
 
+-- a playlist that is read back as it was written
+record CanBeRead (playlist : FollowedPlaylist) : Type 0 where
+  head : read.IsReadableHead playlist.head
+  items : read.AreReadable playlist.head.digits playlist.items
+  same : read.segments_of playlist.head.first_section playlist.head.digits playlist.items
+      ≡ map (segment_of playlist.head.digits) playlist.items
+
 module _ (never_fall : SectionsNeverFall) (one_map : SectionsHaveOneMap) (fit : DurationsFitTarget) (small : NumbersStaySmall)
     (meant : MadeAreMeant) (initializations : InitializationsAreLocated) (parts : PartsAreLocated) (readings : ReadingsAreOfBytes)
-    (paced : AreInPace) (short : AreShortInPace) (read_again : FollowedAreRead) where
-  past_is_read : (terms : Terms) (history : List Update) (w : Whole) (t : ℕ) (past : Past) (url : List ℕ) → IsFollowed terms history
+    (paced : AreInPace) (short : AreShortInPace) (read_again : SpelledAreRead) where
+  past_readable : (terms : Terms) (history : List Update) (w : Whole) (t : ℕ) (past : Past) → IsFollowed terms history
       → IsAccepted terms history → whole_of terms history ≡ Some w → slice_get w.pasts t ≡ Some past
-      → let playlist = playlist_with w.common (track_of (unit_of w.common.terms) past) in
-      ReadsAs (live_text playlist) url (media_of playlist)
+      → CanBeRead (playlist_with w.common (track_of (unit_of w.common.terms) past))
   unfolding state_of
-  past_is_read terms history w t past url followed accepted whole at =
+  past_readable terms history w t past followed accepted whole at =
       let shows : Shows terms history (shown w) = record { accepted = accepted; leaves = ap (option_map shown) whole } in
       let read = each_read history followed.read in
       let typed : AreTyped history = λ front u back same. typed_if_read (mpd_of u) (read front u back same) in
@@ -269,19 +275,22 @@ module _ (never_fall : SectionsNeverFall) (one_map : SectionsHaveOneMap) (fit : 
       let there : slice_get (shown w).tracks t ≡ Some track = cc (slice_get-map (track_of (10 ^ digits)) w.pasts t) in
       let numbers = small terms history (shown w) t track shows there in
       let few = followed.few in
-      let is = read_again (head_of w.common track) (map item_of track.kept) url
-      (grind (arith, addressed.0.target, numbers, numbers.1.sections 0, few)) (record {
-        few = subst (λ (x : Terms). x.digits ≤ 9) (sym its_terms) followed.digits;
-        each = kept_readable digits w.common.target past.first past.all addressed.0.target (addressed.1 t past at) fits;
-        order = in_order track.kept follow;
-      }) in
-      (is.0, (is.1.0, cc (is.1.1, segments_are digits track.kept follow)))
+      record {
+        head = grind (arith, addressed.0.target, numbers, numbers.1.sections 0, few);
+        items = record {
+          few = subst (λ (x : Terms). x.digits ≤ 9) (sym its_terms) followed.digits;
+          each = kept_readable digits w.common.target past.first past.all addressed.0.target (addressed.1 t past at) fits;
+          order = in_order track.kept follow;
+        };
+        same = segments_are digits track.kept follow;
+      }
 
   pub followed_texts_are_read : FollowedTextsAreRead
-  followed_texts_are_read terms history s t playlist url followed shows there =
+  followed_texts_are_read place terms history s t playlist url spells followed shows there =
       let (w, past, whole, at, same, made) = shown_playlist terms history s t playlist shows.leaves there in
-      subst (λ (p : FollowedPlaylist). ReadsAs (live_text p) url (media_of p)) made
-      (past_is_read terms history w t past url followed shows.accepted whole at)
+      let can = subst CanBeRead made (past_readable terms history w t past followed shows.accepted whole at) in
+      let is = read_again place playlist.head playlist.items url spells can.head can.items in
+      (is.0, (is.1.0, cc (is.1.1, can.same)))
 
 -- ---- reloads
 -- what holds of each of some updates holds of those that are accepted, which are no more
@@ -319,7 +328,7 @@ only_meaning text url media given is found =
 
 module _ (texts : FollowedTextsAreRead) (reload : ReloadsAreLawful) (sentences : RulesAreSentences) (accepted : AcceptedAreAccepted) where
   pub followed_texts_reload : FollowedTextsReload
-  followed_texts_reload terms updates u t old new url is =
+  followed_texts_reload place terms updates u t old new url spells is =
       let history : List Update = accepted_of terms updates in
       let more : List Update = accepted_of terms (updates ++ u ∷ []) in
       let shows : Shows terms history is.before = record { accepted = accepted terms updates; leaves = is.leaves } in
@@ -331,14 +340,15 @@ module _ (texts : FollowedTextsAreRead) (reload : ReloadsAreLawful) (sentences :
       record {
         before = media_of old;
         after = media_of new;
-        old_is = texts terms history is.before t old url front shows is.old_is;
-        new_is = texts terms more is.after t new url (accepted_followed terms (updates ++ u ∷ []) is.followed) shows_more is.new_is;
+        old_is = texts place terms history is.before t old url spells front shows is.old_is;
+        new_is = texts place terms more is.after t new url spells
+            (accepted_followed terms (updates ++ u ∷ []) is.followed) shows_more is.new_is;
         lawful = (sentences (media_of old) (media_of new)).0
             (reload terms history u is.before is.after t old new shows shows_grown is.old_is is.new_is);
       }
 
   pub read_texts_reload : ReadTextsReload
-  read_texts_reload terms updates u t old new url before after is old_read new_read =
-      let own = followed_texts_reload terms updates u t old new url is in
-      let old_same = only_meaning (live_text old) url own.before before own.old_is old_read in
-      rw (← old_same, ← only_meaning (live_text new) url own.after after own.new_is new_read) own.lawful
+  read_texts_reload place terms updates u t old new url before after spells is old_read new_read =
+      let own = followed_texts_reload place terms updates u t old new url spells is in
+      let old_same = only_meaning (live_text place old) url own.before before own.old_is old_read in
+      rw (← old_same, ← only_meaning (live_text place new) url own.after after own.new_is new_read) own.lawful

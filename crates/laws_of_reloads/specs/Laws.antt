@@ -1,13 +1,13 @@
 -- What the written playlists of a followed presentation are read as.
 use Rattle.std.specs.Prelude.{◌≡◌, ℕ, ◌≤◌, All, List, [], ◌∷◌, ◌++◌, length, Option, Some, None, Ok}
-use Rattle.url_parts.specs.Addresses.{IsAddress}
+use Rattle.url_parts.specs.{Addresses.IsAddress, Spelling.PlaylistPlace}
 use Rattle.mpd_tree.specs.{Trees.Element, Meaning.reading_of}
 use Rattle.mpd_rules.specs.Rules.{typed_mpd_of}
 use Rattle.hls_media.specs.{Media.media_of as read_media, declared.media.Media.Media}
 use Rattle.reload_law.specs.Laws.{IsLawful}
 use Rattle.live_meaning.specs.{Updates.{Terms, Update, Values, mpd_of}, States.{State, state_of}, Refusals.update_refusal}
 use Rattle.live_meaning.specs.{Playlists.{FollowedPlaylist, live_text, playlist_of}, Laws.{Shows, accepted_of, media_of}}
-use Rattle.laws_of_playlists.specs.{Origins.IsOfBytes, ReadMedia.ReadsAs}
+use Rattle.laws_of_playlists.specs.{Origins.IsOfBytes, ReadMedia.{ReadsAs, Spells}}
 
 -- ---- the updates of a run
 
@@ -35,11 +35,12 @@ pub record IsFollowed (terms : Terms) (updates : List Update) : Type 0 where
 
 -- ---- laws
 
--- each text is read as the playlist of an accepted history
+-- each text is read as the playlist of an accepted history, however URLs are spelled
 abbrev pub FollowedTextsAreRead : Type 0
-FollowedTextsAreRead = (terms : Terms) (history : List Update) (s : State) (t : ℕ) (playlist : FollowedPlaylist) (url : List ℕ)
-    → IsFollowed terms history → Shows terms history s → playlist_of s t ≡ Some playlist
-    → ReadsAs (live_text playlist) url (media_of playlist)
+FollowedTextsAreRead = (place : Option PlaylistPlace) (terms : Terms) (history : List Update) (s : State) (t : ℕ)
+    (playlist : FollowedPlaylist)
+    (url : List ℕ) → Spells place url → IsFollowed terms history → Shows terms history s → playlist_of s t ≡ Some playlist
+    → ReadsAs (live_text place playlist) url (media_of playlist)
 
 -- two texts are read as playlists, the second of which is a valid update of the first
 pub record Reloads (old new url : List ℕ) : Type 0 where
@@ -63,12 +64,14 @@ pub record IsUpdate (terms : Terms) (updates : List Update) (u : Update) (t : �
 
 -- the new text is a valid update of the previous one
 abbrev pub FollowedTextsReload : Type 0
-FollowedTextsReload = (terms : Terms) (updates : List Update) (u : Update) (t : ℕ) (old new : FollowedPlaylist) (url : List ℕ)
-    → IsUpdate terms updates u t old new → Reloads (live_text old) (live_text new) url
+FollowedTextsReload = (place : Option PlaylistPlace) (terms : Terms) (updates : List Update) (u : Update) (t : ℕ)
+    (old new : FollowedPlaylist)
+    (url : List ℕ) → Spells place url → IsUpdate terms updates u t old new
+    → Reloads (live_text place old) (live_text place new) url
 
 -- so are the results of a reader, where it rejects neither
 abbrev pub ReadTextsReload : Type 0
 ReadTextsReload =
-    (terms : Terms) (updates : List Update) (u : Update) (t : ℕ) (old new : FollowedPlaylist) (url : List ℕ) (before after : Media)
-    → IsUpdate terms updates u t old new → read_media (live_text old) url ≡ Ok before → read_media (live_text new) url ≡ Ok after
-    → IsLawful before after
+    (place : Option PlaylistPlace) (terms : Terms) (updates : List Update) (u : Update) (t : ℕ) (old new : FollowedPlaylist) (url : List ℕ)
+    (before after : Media) → Spells place url → IsUpdate terms updates u t old new → read_media (live_text place old) url ≡ Ok before
+    → read_media (live_text place new) url ≡ Ok after → IsLawful before after

@@ -17,7 +17,7 @@ use presentation::presentations_mean_what_they_list;
 use reload_law::rules_are_sentences;
 
 /// For an accepted history of MPDs that were read, the text of each playlist is read back as the playlist that it was
-/// written from, whatever its URL.
+/// written from, however URLs are spelled, where each text stands for its URL in the playlist.
 pub fn followed_texts_are_read()
     ensures { FollowedTextsAreRead }
 {

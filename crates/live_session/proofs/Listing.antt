@@ -1,10 +1,11 @@
 -- The playlist of a track by what is written of its segments.
-use Rattle.std.proofs.Common.{◌≡◌, List, [], ◌∷◌, ◌++◌, map, length, All, Some, None, refl, sym, ◌∙◌, ap, arith}
+use Rattle.std.proofs.Common.{◌≡◌, List, [], ◌∷◌, ◌++◌, map, length, All, Option, Some, None, refl, sym, ◌∙◌, ap, arith}
 use Rattle.std.proofs.{lemmas.List.Elements.{All-cons, All-head, All-nil, All-tail}, lemmas.List.length-map, lemmas.Option.slice_get-map}
 use Rattle.std.specs.Prelude.{slice_get}
 use Rattle.iso_time.specs.Instant.{IsWritable}
-use Rattle.hls_writer.specs.{declared.items.MediaHead.MediaHead, declared.items.MediaItem.MediaItem, Items.{head_of, item_of, items_text}}
-use Rattle.hls_writer.specs.Playlists.{Item, followed_text}
+use Rattle.hls_writer.specs.{declared.items.MediaHead.MediaHead, declared.items.MediaItem.MediaItem, Items.{head_of, item_of, spelled_text}}
+use Rattle.hls_writer.specs.{Playlists.{Item, followed_text}, Spelled.spelled_items}
+use Rattle.url_parts.specs.Spelling.{PlaylistPlace}
 use Rattle.live_meaning.specs.Playlists.{FollowedPlaylist, first_section, item_of as item_shown, live_text}
 use Rattle.live_judge.specs.{declared.track.Fact.Fact, declared.track.LiveTrack.LiveTrack, Shown.{kept_of, kepts_of, track_shown}}
 use Rattle.live_session.specs.Written.{IsDated, IsWritten}
@@ -19,10 +20,12 @@ pub items_in : {track : LiveTrack} {xs : List Item} → IsWritten track → map 
     → xs ≡ map item_of track.items.items
 items_in {track} written shown = sym shown ∙ items_are track.items.items track.facts.items written.paired
 
-pub text_is : {track : LiveTrack} {playlist : FollowedPlaylist} (head : MediaHead) → IsWritten track → head_of head ≡ playlist.head
-    → map item_shown (track_shown track).kept ≡ playlist.items → items_text head track.items.items ≡ live_text playlist
-text_is {track} {playlist} head written first shown =
-    ap (λ h. followed_text h (map item_of track.items.items)) first ∙ ap (followed_text playlist.head) (sym (items_in written shown))
+pub text_is : {track : LiveTrack} {playlist : FollowedPlaylist} (place : Option PlaylistPlace) (head : MediaHead) → IsWritten track
+    → head_of head ≡ playlist.head → map item_shown (track_shown track).kept ≡ playlist.items
+    → spelled_text place head track.items.items ≡ live_text place playlist
+text_is {track} {playlist} place head written first shown =
+    ap (λ h. followed_text h (spelled_items place (map item_of track.items.items))) first
+    ∙ ap (λ items. followed_text playlist.head (spelled_items place items)) (sym (items_in written shown))
 
 items_dated : (items : List MediaItem) (facts : List Fact) → length items ≡ length facts → All IsDated (kepts_of items facts)
     → All (λ (item : MediaItem). IsWritable item.date) items

@@ -3,6 +3,7 @@ use Rattle.live_judge.specs.declared.fault.RefreshFault.TheVariants as fault
 use Rattle.std.specs.Prelude.{◌≡◌, ℕ, ◌+◌, ◌≤◌, ℤ, All, List, [], ◌∷◌, ◌++◌, length, IfSome, MatchResult, None, Some, Option, Result}
 use Rattle.std.specs.{Prelude.{Ok, Err}, Option.option_map_or}
 use Rattle.iso_time.specs.Instant.{IsReadable}
+use Rattle.url_parts.specs.Spelling.{PlaylistPlace}
 use Rattle.presentation.specs.{declared.fault.PresentationFault.TheVariants.Url, Counting.{count_of_all, counted}}
 use Rattle.live_meaning.specs.{Updates.{Refresh, Terms, Tick, Update, Values}, Known.ids_of, Histories.availability_start_of, States.State}
 use Rattle.live_meaning.specs.{Refusals.{ids_in, update_refusal}, Playlists.{live_text, playlist_of}, Laws.Shows}
@@ -61,6 +62,6 @@ Goes terms history u result after =
 
 -- ---- texts
 
--- the text of a track's playlist
-abbrev pub text_of : State → (track : ℕ) → List ℕ
-text_of s t = option_map_or live_text (playlist_of s t) []
+-- the text of a track's playlist at a place
+abbrev pub text_of : Option PlaylistPlace → State → (track : ℕ) → List ℕ
+text_of place s t = option_map_or (live_text place) (playlist_of s t) []

@@ -16,6 +16,7 @@ use live_judge::{LiveTrack, Standing};
 use presentation::Presentation;
 use std::alloc::Global;
 use std::marker::Model;
+use url_parts::Spelling;
 
 /// The current media playlist of a followed track: its header values, and the kept segments.
 ///
@@ -103,23 +104,24 @@ impl LivePlaylist<'_> {
         }
     }
 
-    /// Writes it to a file.
+    /// Writes it to a file, with URLs spelled so.
     ///
     /// An error leaves the file as it was, or with a prefix of the text. [`OutFault::WriteFault`] comes only where the store's
     /// count of failed writes rose.
     pub(crate) fn write<F: Store>(
         &self,
         alloc: Global,
+        spelling: &Spelling,
         store: &mut F,
         name: &Name,
     ) -> Result<(), OutFault>
-        ensures ok { OnOk result (Changes (put name.now (live_text self.now)) (F.files store.old) (F.files store.new)) }
-        ensures err { OnErr result (MayBegin (name.now, live_text self.now) (F.files store.old) (F.files store.new)) }
+        ensures ok { OnOk result (Changes (put name.now (live_text spelling.now self.now)) (F.files store.old) (F.files store.new)) }
+        ensures err { OnErr result (MayBegin (name.now, live_text spelling.now self.now) (F.files store.old) (F.files store.new)) }
         ensures cause { HasCause WriteFault (F.write_faults store.old) (F.write_faults store.new) result }
         ensures reads { F.read_faults store.new ≡ F.read_faults store.old }
     {
         let (front, back) = self.track.items.as_slices();
-        write_item_slices(alloc, &self.head(), front, back, store, name)
+        write_item_slices(alloc, &self.head(), front, back, spelling, store, name)
     }
 }
 

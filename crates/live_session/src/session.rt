@@ -38,7 +38,7 @@ use mpd_rules::laws::period_ids_differ;
 use presentation::Presentation;
 use std::alloc::Global;
 use std::marker::Model;
-use url_parts::Base;
+use url_parts::{Base, Spelling};
 
 /// A followed presentation: its state after the accepted updates.
 ///
@@ -222,18 +222,25 @@ impl Session {
         }
     }
 
-    /// Writes the playlist of a track to a file.
+    /// Writes the playlist of a track to a file, with URLs spelled so.
     ///
     /// Requires that the track is in range. An error leaves the file as it was, or with a prefix of the text.
     /// [`OutFault::WriteFault`] comes only where the store's count of failed writes rose.
-    pub fn write<F: Store>(&self, track: usize, store: &mut F, name: &Name) -> Result<(), OutFault>
+    pub fn write<F: Store>(
+        &self,
+        track: usize,
+        spelling: &Spelling,
+        store: &mut F,
+        name: &Name,
+    ) -> Result<(), OutFault>
         requires { track < length self.now.tracks }
-        ensures ok { OnOk result (Changes (put name.now (text_of self.now track)) (F.files store.old) (F.files store.new)) }
-        ensures err { OnErr result (MayBegin (name.now, text_of self.now track) (F.files store.old) (F.files store.new)) }
+        ensures ok { OnOk result (Changes (put name.now (text_of spelling.now self.now track)) (F.files store.old) (F.files store.new)) }
+        ensures err { OnErr result (MayBegin (name.now, text_of spelling.now self.now track) (F.files store.old) (F.files store.new)) }
         ensures cause { HasCause WriteFault (F.write_faults store.old) (F.write_faults store.new) result }
         ensures reads { F.read_faults store.new ≡ F.read_faults store.old }
     {
-        self.playlist(track).write(self.alloc, store, name)
+        self.playlist(track)
+            .write(self.alloc, spelling, store, name)
     }
 
     /// The presentation of the first MPD at its time, for the master playlist.

@@ -3,3 +3,4 @@ pub mod Laws
 pub mod Ranges
 pub mod Codes
 pub mod Paths
+pub mod Spelling

@@ -2,6 +2,7 @@
 ghost use Rattle.std.specs.Prelude.{◌≡◌, ℕ, List, ◌++◌, Ok, Some};
 ghost use Rattle.url_parts.specs.Addresses.{resolve, beside, folder_of, unless_long, without_tail, local_name_of};
 ghost use Rattle.url_parts.specs.Laws.{NeedsNoBase, IsGivenAgain, IsGivenInFolder, GoesOn};
+ghost use Rattle.url_parts.specs.Spelling.{StandsFor, place_of, playlist_url, spelled};
 
 use crate::{Address, Base};
 use bridge_io::Name;
@@ -66,4 +67,17 @@ pub fn one_more_reference(reference: &str)
     ensures { GoesOn reference.now }
 {
     let _ = reference;
+}
+
+/// What is written for a URL beside a playlist stands for the URL there: it is the line of a URI, and resolves to the URL
+/// against the playlist's URL. A URL that is written as it is stands for itself in each playlist.
+pub fn spelled_address(base: &str, out: &str, file: &str, address: &Address)
+    ensures beside { StandsFor (playlist_url base.now out.now file.now) address.now
+        (spelled (place_of base.now out.now file.now) address.now) }
+    ensures absolute { (playlist : List ℕ) → StandsFor playlist address.now address.now }
+{
+    let _ = base;
+    let _ = out;
+    let _ = file;
+    let _ = address.as_str();
 }

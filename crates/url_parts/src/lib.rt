@@ -8,6 +8,7 @@ mod fault;
 pub mod laws;
 mod range;
 mod resolver;
+mod spelling;
 
 pub use address::{Address, Part};
 pub use base::{Base, local_name};
@@ -15,3 +16,4 @@ pub use code::{CodeClass, code_class};
 pub use fault::UrlFault;
 pub use range::{Range, read_range};
 pub use resolver::Resolver;
+pub use spelling::{Reference, Spelling};

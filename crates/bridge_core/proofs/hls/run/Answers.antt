@@ -1,15 +1,21 @@
-use Rattle.std.proofs.Common.{ap, Err}
-use Rattle.bridge_playlists.specs.Places.{store_place_of}
+use Rattle.std.proofs.Common.{ap, ◌∙◌, Err}
+use Rattle.bridge_playlists.{proofs.Places.folder_is_base, specs.Places.store_place_of}
+use Rattle.bridge_steps.specs.Playlists.{output_of}
 use Rattle.bridge_steps.proofs.Endings.{at_place, halts, then_ends, writing}
-use Rattle.bridge_core.specs.Hls.{files_of, hls_at, hls_outcome, line_of, outcome_of, translated, translation_at}
+use Rattle.bridge_core.specs.Hls.{files_of, hls_at, hls_outcome, line_of, outcome_of, output_of_job, translated, translation_at}
 use Rattle.bridge_core.proofs.hls.run.Goals as goal
+
+-- the folder of the playlists is under the base
+pub write-requires : goal.write-requires
+write-requires g c = let job = c.args.job.now in
+    c.of-output.ensures ∙ ap (λ base. output_of job.addresses base job.out) (folder_is_base job.base job.mpd c.in-Ok.place c.in-Ok.ensures)
 
 pub returns-in-Ok-translation_at : goal.returns-in-Ok-translation_at
 unfolding hls_outcome
 returns-in-Ok-translation_at g c =
     let job = c.args.job.now in let place = c.in-Ok.place in let read = c.in-Ok-translation_at.ensures in
     at_place (store_place_of job.base job.mpd) place (hls_at job (g.F.Store.files c.args.store.now)) c.write.result _ _ c.in-Ok.ensures
-    (then_ends (outcome_of job) (writing (files_of job.out) line_of) (translation_at job place) c.write.result _ _
+    (then_ends (outcome_of job) (writing (files_of (output_of_job job)) line_of) (translation_at job place) c.write.result _ _
     (translated c.in-Ok-translation_at.translation) _ read.read read.cause.never_falls read.files read.writes c.write.ensures)
 
 pub returns-in-Ok : goal.returns-in-Ok
@@ -17,6 +23,6 @@ unfolding hls_outcome
 returns-in-Ok g c =
     let job = c.args.job.now in let place = c.in-Ok.place in let read = c.in-Err-translation_at.ensures in
     at_place (store_place_of job.base job.mpd) place (hls_at job (g.F.Store.files c.args.store.now)) c.halted.result _ _ c.in-Ok.ensures
-    (halts (outcome_of job) (writing (files_of job.out) line_of) (translation_at job place) c.halted.result _ _
+    (halts (outcome_of job) (writing (files_of (output_of_job job)) line_of) (translation_at job place) c.halted.result _ _
     c.in-Err-translation_at.halt c.halted.ensures read.read (λ e. read.cause.rose (ap Err e)) read.cause.never_falls read.files
     read.writes)

@@ -1,5 +1,5 @@
 use Rattle.bridge_core.proofs.make.write_files.Goals as goal
-use Rattle.std.proofs.Common.{subst}
+use Rattle.std.proofs.Common.{None, subst}
 use Rattle.bridge_io.specs.{Outside.{put, Changes}, InOrder.{put_all, MayBegin, AreBegun}}
 use Rattle.bridge_jobs.specs.Laws.{in_folder}
 use Rattle.bridge_core.specs.Make.{source_file, source_name}
@@ -10,7 +10,8 @@ pub returns-in_err-write_source-clause-err : goal.returns-in_err-write_source-cl
 returns-in_err-write_source-clause-err g c =
     let job = c.args.job.now in let files = g.F.Store.files in let before = files c.args.store.now in
     let after = files c.write_source.new.store in
-    on_err c.from_residual.result (first_begun (source_file job.out job.seed) (playlists job.out job.digits c.args.ready.now.presentation)
+    on_err c.from_residual.result (first_begun (source_file job.out job.seed)
+    (playlists (record { folder = job.out; base = None }) job.digits c.args.ready.now.presentation)
     before after
     (subst (λ text. MayBegin (in_folder job.out source_name, text) before after) c.requires.text c.in_err-write_source.ensures.err))
 
@@ -21,9 +22,10 @@ returns-clause-ok g c =
     let put_first = subst (λ text. Changes (put (in_folder job.out source_name) text) before mid) c.requires.text
     c.in_ok-write_source.ensures.ok in
     on_ok_by c.write_playlists.result (λ others. then_put (source_file job.out job.seed)
-    (playlists job.out job.digits c.args.ready.now.presentation) before mid after put_first
-    (subst (λ digits. Changes (put_all (playlists job.out digits c.args.ready.now.presentation)) mid after) c.requires.digits others))
-    c.write_playlists.ensures.ok
+    (playlists (record { folder = job.out; base = None }) job.digits c.args.ready.now.presentation) before mid after put_first
+    (subst (λ digits. Changes (put_all (playlists (record { folder = job.out; base = None }) digits c.args.ready.now.presentation)) mid
+    after) c.requires.digits others))
+    (rw c.absolute.ensures at c.write_playlists.ensures.ok)
 
 pub returns-clause-err : goal.returns-clause-err
 returns-clause-err g c =
@@ -32,6 +34,7 @@ returns-clause-err g c =
     let put_first = subst (λ text. Changes (put (in_folder job.out source_name) text) before mid) c.requires.text
     c.in_ok-write_source.ensures.ok in
     on_err_by c.write_playlists.result (λ others. then_begun (source_file job.out job.seed)
-    (playlists job.out job.digits c.args.ready.now.presentation) before mid after put_first
-    (subst (λ digits. AreBegun (playlists job.out digits c.args.ready.now.presentation) mid after) c.requires.digits others))
-    c.write_playlists.ensures.err
+    (playlists (record { folder = job.out; base = None }) job.digits c.args.ready.now.presentation) before mid after put_first
+    (subst (λ digits. AreBegun (playlists (record { folder = job.out; base = None }) digits c.args.ready.now.presentation) mid after)
+    c.requires.digits others))
+    (rw c.absolute.ensures at c.write_playlists.ensures.err)

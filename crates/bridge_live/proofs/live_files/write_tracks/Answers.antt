@@ -6,7 +6,7 @@ use Rattle.bridge_steps.proofs.Files.{track_at, all_tracks, on_err}
 
 pub returns-in_err-write_track-clause-err : goal.returns-in_err-write_track-clause-err
 returns-in_err-write_track-clause-err g c =
-    let s = c.args.session.now in let out = c.args.out.now in let l = c.loop-track in let files = g.F.Store.files in
+    let s = c.args.session.now in let out = c.args.output.now in let l = c.loop-track in let files = g.F.Store.files in
     let within : l.track < length s.tracks = omega (arith, ap length c.tracks.ensures, c.first.ensures.tracks) in
     on_err c.from_residual.result
     (begun_at (track_files out s) l.track (track_file out s l.track) (files c.args.store.now) (files l.store)
@@ -15,7 +15,7 @@ returns-in_err-write_track-clause-err g c =
 
 pub loop-track-preserved : goal.loop-track-preserved
 loop-track-preserved g c =
-    let s = c.args.session.now in let out = c.args.out.now in let l = c.loop-track in let files = g.F.Store.files in
+    let s = c.args.session.now in let out = c.args.output.now in let l = c.loop-track in let files = g.F.Store.files in
     let within : l.track < length s.tracks = omega (arith, ap length c.tracks.ensures, c.first.ensures.tracks) in
     record {
       put = put_next (track_files out s) l.track (track_file out s l.track) (files c.args.store.now) (files l.store)
@@ -27,7 +27,7 @@ loop-track-preserved g c =
 
 pub returns-clause-ok : goal.returns-clause-ok
 returns-clause-ok g c =
-    let s = c.args.session.now in let out = c.args.out.now in let l = c.loop-track in
+    let s = c.args.session.now in let out = c.args.output.now in let l = c.loop-track in
     let past : length s.tracks ≤ l.track = omega (arith, ap length c.tracks.ensures, c.first.ensures.tracks) in
     subst (λ taken. Changes (put_all taken) (g.F.Store.files c.args.store.now) (g.F.Store.files l.store))
     (all_tracks (track_file out s) (length s.tracks) l.track past) l.invariant.put

@@ -6,7 +6,7 @@ use Rattle.bridge_steps.proofs.Files.{track_at, all_tracks, on_err}
 
 pub returns-in_err-write_track-clause-err : goal.returns-in_err-write_track-clause-err
 returns-in_err-write_track-clause-err g c =
-    let ready = c.args.ready.now in let p = ready.presentation in let out = c.args.out.now in let l = c.loop-track in
+    let ready = c.args.ready.now in let p = ready.presentation in let out = c.args.output.now in let l = c.loop-track in
     let files = g.F.Store.files in
     let within : l.track < length p.tracks = omega (arith, ap length c.tracks.ensures) in
     on_err c.from_residual.result
@@ -16,7 +16,7 @@ returns-in_err-write_track-clause-err g c =
 
 pub loop-track-preserved : goal.loop-track-preserved
 loop-track-preserved g c =
-    let ready = c.args.ready.now in let p = ready.presentation in let out = c.args.out.now in let l = c.loop-track in
+    let ready = c.args.ready.now in let p = ready.presentation in let out = c.args.output.now in let l = c.loop-track in
     let files = g.F.Store.files in
     let within : l.track < length p.tracks = omega (arith, ap length c.tracks.ensures) in
     record {
@@ -30,7 +30,7 @@ loop-track-preserved g c =
 
 pub returns-clause-ok : goal.returns-clause-ok
 returns-clause-ok g c =
-    let ready = c.args.ready.now in let p = ready.presentation in let out = c.args.out.now in let l = c.loop-track in
+    let ready = c.args.ready.now in let p = ready.presentation in let out = c.args.output.now in let l = c.loop-track in
     let past : length p.tracks ≤ l.track = omega (arith, ap length c.tracks.ensures) in
     subst (λ taken. Changes (put_all taken) (g.F.Store.files c.args.store.now) (g.F.Store.files l.store))
     (all_tracks (track_file out ready.digits p) (length p.tracks) l.track past) l.invariant.put

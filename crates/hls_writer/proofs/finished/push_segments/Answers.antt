@@ -2,7 +2,7 @@ use Rattle.hls_writer.proofs.finished.push_segments.Goals as goal
 use Rattle.std.proofs.Common.{◌++◌, ◌∙◌, [], refl, sym}
 use Rattle.presentation.specs.Printing.{IsPassed}
 use Rattle.timeline.specs.{Listed.timing_of, Written.part_with}
-use Rattle.hls_writer.specs.{Finished.item_of, Lines.lines_text, Playlists.item_lines}
+use Rattle.hls_writer.specs.{Finished.item_of, Lines.lines_text, Playlists.item_lines, Spelled.spelled_item}
 use Rattle.bridge_io.proofs.Adding.{adds_none, adds_same, adds_then, adds_stop_at, adds_wanting}
 use Rattle.hls_writer.proofs.Sections.{first_addressed, next_item, one_more, still_addressed}
 
@@ -32,7 +32,8 @@ returns-in_err-push_segment-clause-adds g c =
     let item = next_item place.map.now place.section l.segments c.pass.new.self
     (timing_of c.in-Some.span) c.in-Some.duration part c.in-Some.ensures.segment
     (rw l.invariant.timeline at c.in_ok-range.ensures.part) in
-    let goes = one_more place.digits l.former (item_of part place.map.now place.section c.in-Some.duration) _ l.invariant.done.0 _
+    let goes = one_more place.digits l.former
+    (spelled_item place.spelling.now (item_of part place.map.now place.section c.in-Some.duration)) _ l.invariant.done.0 _
     (rw item at l.invariant.done.1) in
     adds_same goes (adds_stop_at _ c.from_residual-in_err-push_segment.result c.from_residual-in_err-push_segment.ensures.1
     (adds_then _ l.invariant.done.2 c.in_err-push_segment.ensures))
@@ -45,7 +46,7 @@ loop-span-preserved g c =
     let next : IsPassed l.segments (timing_of c.in-Some.span) c.in-Some.duration c.pass.new.self = c.in-Some.ensures.segment in
     let item = next_item place.map.now place.section l.segments c.pass.new.self (timing_of c.in-Some.span) c.in-Some.duration part next
     (rw l.invariant.timeline at c.in_ok-range.ensures.part) in
-    let here = item_of part place.map.now place.section c.in-Some.duration in
+    let here = spelled_item place.spelling.now (item_of part place.map.now place.section c.in-Some.duration) in
     record {
       timeline = c.in_ok-range.ensures.timeline ∙ l.invariant.timeline ∙ sym next.timeline;
       addressed = still_addressed place.map.now place.section l.segments c.pass.new.self

@@ -5,4 +5,4 @@ pub returns : goal.returns
 returns c = followed_texts_are_read c.accepted_never_drift.ensures.sections c.sections_have_one_map.ensures.maps
     c.sections_have_one_map.ensures.durations c.playlists_are_never_empty.ensures.small c.presentations_mean_what_they_list.ensures.made
     c.parts_are_located.ensures.initializations c.parts_are_located.ensures.segments c.read_trees_are_of_bytes.ensures.readings
-    c.counted_segments_are_in_pace.ensures c.static_segments_are_in_pace.ensures.short c.playlists_are_read_again.ensures.followed
+    c.counted_segments_are_in_pace.ensures c.static_segments_are_in_pace.ensures.short c.playlists_are_read_again.ensures.spelled

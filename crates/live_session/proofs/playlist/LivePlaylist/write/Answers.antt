@@ -16,10 +16,10 @@ write_item_slices-requires-clause-back g c =
 
 pub returns-clause-ok : goal.returns-clause-ok
 returns-clause-ok g c =
-    let text = text_is c.head.result c.self.invariant c.head.ensures (ap (λ p. p.items) c.self.view_is) in
+    let text = text_is c.args.spelling.now c.head.result c.self.invariant c.head.ensures (ap (λ p. p.items) c.self.view_is) in
     rw (c.as_slices.ensures, text) at c.write_item_slices.ensures.ok
 
 pub returns-clause-err : goal.returns-clause-err
 returns-clause-err g c =
-    let text = text_is c.head.result c.self.invariant c.head.ensures (ap (λ p. p.items) c.self.view_is) in
+    let text = text_is c.args.spelling.now c.head.result c.self.invariant c.head.ensures (ap (λ p. p.items) c.self.view_is) in
     rw (c.as_slices.ensures, text) at c.write_item_slices.ensures.err

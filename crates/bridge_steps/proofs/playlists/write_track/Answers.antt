@@ -1,0 +1,4 @@
+use Rattle.bridge_steps.proofs.playlists.write_track.Goals as goal
+
+pub returns-clause-err : goal.returns-clause-err
+returns-clause-err g c = let file = c.in-Ok.ensures in rw (file.0, file.1) at c.write_media.ensures.err

@@ -1,0 +1,115 @@
+-- How URLs are spelled beside a playlist.
+use Rattle.std.proofs.Common.{◌≡◌, ◌≢◌, ℕ, ◌==◌, Bool, true, false, List, [], ◌∷◌, ◌++◌, length, drop, Result, Ok, Err, Some, None, Bor}
+use Rattle.std.proofs.{Common.{refl, ap, subst, ◌∙◌, ⊎_elim, if◌then◌else◌}, lemmas.Bool.{and_parts, cases_Bool, cond_both}}
+use Rattle.std.proofs.lemmas.{Bool.Decides.Decides-eqb, List.drop_at, List.Elements.All-drop, List.Folds.list_all-append}
+use Rattle.std.proofs.lemmas.Slice.Eq.{starts_is, bytes_eq-Decides}
+use Rattle.std.specs.{Prelude.{nat_eq, codes}, List.{flat_map, list_all, starts_with}, Option.option_copied, Bool.then_some}
+use Rattle.url.proofs.InputLemmas.{Passes, All_from_list_all, list_all_from_All}
+use Rattle.bridge_io.specs.Names.{parts_after}
+use Rattle.url_parts.specs.{declared.fault.UrlFault.UrlFault, Addresses.{absolute, is_absolute, is_address_byte, resolve, IsAddress}}
+use Rattle.url_parts.specs.Spelling.{PlaylistPlace, StandsFor, begins_uri, is_given, is_relative, place_of, playlist_url, reference_of}
+use Rattle.url_parts.specs.Spelling.{rest_of, spelled, spelled_beside, steps_up}
+use Rattle.url_parts.proofs.{Bases.bytes_from_accepted, Parsed.{address_is_base, given_again}}
+
+-- the steps that a byte of a name adds
+abbrev pub step_at : ℕ → List ℕ
+step_at b = if b == 47 then codes "../" else []
+
+-- a name has one part more than slashes
+steps_by_bytes : (front bytes : List ℕ) → flat_map (λ part. codes "../") (parts_after front bytes) ≡ codes "../" ++ flat_map step_at bytes
+steps_by_bytes front [] = refl
+steps_by_bytes front (b ∷ bs) =
+    let f : List ℕ → List ℕ = λ part. codes "../" in
+    elim (b == 47) as (λ t. flat_map f (if t then front ∷ parts_after [] bs else parts_after (front ++ b ∷ []) bs)
+    ≡ codes "../" ++ ((if t then codes "../" else []) ++ flat_map step_at bs)) [
+      | true ↦ ap (λ t. codes "../" ++ t) (steps_by_bytes [] bs)
+      | false ↦ steps_by_bytes (front ++ b ∷ []) bs
+    ]
+
+pub steps_up_by_bytes : (out : List ℕ) → steps_up out ≡ codes "../" ++ flat_map step_at out
+steps_up_by_bytes out = steps_by_bytes [] out
+
+-- a URL that doesn't begin with the folder's text has no rest
+pub rest_outside : (place : PlaylistPlace) (address : List ℕ) → ((rest : List ℕ) → address ≢ place.folder ++ rest)
+    → None ≡ rest_of place address
+rest_outside place address never =
+    ⊎_elim
+    (λ begins. absurd (never _ ((starts_is Decides-eqb address place.folder (starts_with nat_eq address place.folder) refl).0 begins)))
+    (λ other. rw other refl)
+    (cases_Bool (starts_with nat_eq address place.folder))
+
+-- the rest of another one is kept where the steps and this rest give the URL
+pub rest_inside : (place : PlaylistPlace) (address reference rest : List ℕ) (given : Bool) → address ≡ place.folder ++ rest
+    → reference ≡ place.up ++ rest → given ≡ is_given address (resolve place.url reference)
+    → (if given then Some rest else None) ≡ rest_of place address
+rest_inside place address reference rest given whole spelled is =
+    let begins = (starts_is Decides-eqb address place.folder (starts_with nat_eq address place.folder) refl).1 rest whole in
+    let back : drop (length place.folder) address ≡ rest = ap (drop (length place.folder)) whole ∙ drop_at place.folder rest _ refl in
+    rw (begins, back, is, spelled) refl
+
+-- the text in such an option
+pub copied_then_some : (given : Bool) (rest : Bor (List ℕ)) → option_copied (then_some given rest) ≡ (if given then Some rest.now else None)
+copied_then_some true rest = refl
+copied_then_some false rest = refl
+
+-- ---- what stands for a URL
+
+steps_bytes : (parts : List (List ℕ)) → list_all is_address_byte (flat_map (λ part. codes "../") parts) ≡ true
+steps_bytes [] = refl
+steps_bytes (part ∷ parts) = steps_bytes parts
+
+steps_begin : (out rest : List ℕ) → begins_uri (steps_up out ++ rest) ≡ true
+steps_begin out rest = rw (steps_up_by_bytes out) refl
+
+address_bytes : (address : List ℕ) → IsAddress address → list_all is_address_byte address ≡ true
+address_bytes address is =
+    let base = address_is_base address is in
+    subst (λ t. list_all is_address_byte t ≡ true) base.spelled (bytes_from_accepted base.url _ base.is.accepted)
+
+rest_bytes : (n : ℕ) (address : List ℕ) → IsAddress address → list_all is_address_byte (drop n address) ≡ true
+rest_bytes n address is = list_all_from_All is_address_byte (drop n address) (All-drop (Passes is_address_byte) n address
+    (All_from_list_all is_address_byte address (address_bytes address is)))
+
+address_begins : (address : List ℕ) → is_absolute address ≡ true → begins_uri address ≡ true
+address_begins address web =
+    let front = λ (text : List ℕ) (is : starts_with nat_eq address text ≡ true).
+    (starts_is Decides-eqb address text (starts_with nat_eq address text) refl).0 is in
+    ⊎_elim
+    (λ http. ap begins_uri (front (codes "http://") http))
+    (λ other. ap begins_uri (front (codes "https://") (rw other at web)))
+    (cases_Bool (starts_with nat_eq address (codes "http://")))
+
+-- an absolute URL stands for itself in each playlist
+pub stands_alone : (playlist address : List ℕ) → IsAddress address → StandsFor playlist address address
+stands_alone playlist address is = record {
+  bytes = address_bytes address is;
+  begins = address_begins address is.web;
+  given = given_again address is playlist;
+}
+
+given_by : (address : List ℕ) (result : Result (List ℕ) UrlFault) → is_given address result ≡ true → result ≡ Ok address
+given_by address (Ok url) is = ap Ok ((bytes_eq-Decides url address).0 is)
+given_by address (Err fault) is = cc
+
+stands_at : (place : PlaylistPlace) (out address : List ℕ) → place.up ≡ steps_up out → IsAddress address
+    → StandsFor place.url address (spelled_beside place address)
+unfolding spelled_beside
+stands_at place out address up is =
+    cond_both (is_relative place address) (reference_of place address) address (StandsFor place.url address)
+    (λ relative. record {
+      bytes = rw (up, list_all-append is_address_byte (steps_up out) (drop (length place.folder) address), steps_bytes (parts_after [] out))
+          (rest_bytes (length place.folder) address is);
+      begins = rw up (steps_begin out (drop (length place.folder) address));
+      given = given_by address (resolve place.url (reference_of place address)) (and_parts _ _ relative).1;
+    })
+    (λ _. stands_alone place.url address is)
+
+-- what is written beside a playlist stands for the URL there
+pub stands_beside : (base out file address : List ℕ) → IsAddress address
+    → StandsFor (playlist_url base out file) address (spelled (place_of base out file) address)
+unfolding place_of
+stands_beside base out file address is =
+    let url = playlist_url base out file in
+    let place : PlaylistPlace = record { folder = base; up = steps_up out; url = url } in
+    cond_both (is_given url (absolute url)) (Some place) None (λ place. StandsFor url address (spelled place address))
+    (λ _. stands_at place out address refl is) (λ _. stands_alone url address is)
