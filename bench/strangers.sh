@@ -99,13 +99,15 @@ def judge(rows, most_seconds, most_megabytes):
     for command, name, base, what in rows:
         size = os.path.getsize(name)
         assert size <= 8_388_608, (name, size)
-        seconds, megabytes, answer = answers([bridge, command, name, f"--base={base}"])
+        seconds, megabytes, answer = answers([bridge, *command.split(), name, f"--base={base}"])
         print(f"| {what} | {size / 1e6:.1f} | `{answer}` | {seconds:.2f} | {megabytes:.0f} |", flush=True)
         assert seconds <= most_seconds and megabytes <= most_megabytes, what
     print()
 
 rows.append(("hls", under("levels.mpd", 995, 190, (UP * 400, UP * 74, UP * 74), template("$Number$")), BASE,
              "995 Periods of 190 Representations, below BaseURLs at three levels"))
+rows.append(("hls --addresses=relative", named("beside.mpd", "d" * 1_950 + "/$Number$"), BASE,
+             "100,000 segments of which each has a relative URL of 2 kB"))
 judge(rows, 5, 600)
 judge(long, 2, 200)
 judge(short, 2, 100)
