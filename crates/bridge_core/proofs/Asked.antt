@@ -66,14 +66,16 @@ few_of : (rows : List Row) (digits : ℕ) → digits_of rows ≡ Some digits →
 unfolding digits_of
 few_of rows digits is = few_or_six (first_of (codes "digits") rows) digits is
 
--- the last three of a job's values
-ended_in : {A B : Type 0} (P : A → Type 0) (out : Option (List ℕ)) (digits : Option ℕ) (last : Option B) (make : List ℕ → ℕ → B → A)
-    → ((o : List ℕ) (d : ℕ) (l : B) → out ≡ Some o → digits ≡ Some d → P (make o d l))
-    → IfSome (out >>= (λ o. digits >>= (λ d. last >>= (λ l. Some (make o d l))))) P
-ended_in P None digits last make is = tt
-ended_in P (Some o) None last make is = tt
-ended_in P (Some o) (Some d) None make is = tt
-ended_in P (Some o) (Some d) (Some l) make is = is o d l refl refl
+-- the last four of a job's values
+ended_in : {A B C : Type 0} (P : A → Type 0) (out : Option (List ℕ)) (digits : Option ℕ) (more : Option B) (last : Option C)
+    (make : List ℕ → ℕ → B → C → A)
+    → ((o : List ℕ) (d : ℕ) (m : B) (l : C) → out ≡ Some o → digits ≡ Some d → P (make o d m l))
+    → IfSome (out >>= (λ o. digits >>= (λ d. more >>= (λ m. last >>= (λ l. Some (make o d m l)))))) P
+ended_in P None digits more last make is = tt
+ended_in P (Some o) None more last make is = tt
+ended_in P (Some o) (Some d) None last make is = tt
+ended_in P (Some o) (Some d) (Some m) None make is = tt
+ended_in P (Some o) (Some d) (Some m) (Some l) make is = is o d m l refl refl
 
 out_is : (rows : List Row) (out : List ℕ) → out_of rows ≡ Some out → IsTrue (is_folder out)
 unfolding out_of
@@ -83,15 +85,15 @@ hls_bounded : (rows : List Row) → IfSome (hls_of rows) (λ j. IsBounded (job.H
 unfolding hls_of
 hls_bounded rows =
     behind _ (file_of (codes "mpd") rows) _ (λ mpd. behind _ (base_of rows) _ (λ base. behind _ (now_of rows) _ (λ now.
-    ended_in (λ j. IsBounded (job.Hls j)) (out_of rows) (digits_of rows) (addresses_of rows) _
-    (λ out digits addresses folder few. (out_is rows out folder, few_of rows digits few)))))
+    ended_in (λ j. IsBounded (job.Hls j)) (out_of rows) (digits_of rows) (addresses_of rows) (form_of rows) _
+    (λ out digits addresses form folder few. (out_is rows out folder, few_of rows digits few)))))
 
 index_bounded : (rows : List Row) → IfSome (index_of rows) (λ j. IsBounded (job.HlsIndex j))
 unfolding index_of
 index_bounded rows =
     behind _ (file_of (codes "mpd") rows) _ (λ mpd. behind _ (base_of rows) _ (λ base.
-    ended_in (λ j. IsBounded (job.HlsIndex j)) (out_of rows) (digits_of rows) (addresses_of rows) _
-    (λ out digits addresses folder few. (out_is rows out folder, few_of rows digits few))))
+    ended_in (λ j. IsBounded (job.HlsIndex j)) (out_of rows) (digits_of rows) (addresses_of rows) (form_of rows) _
+    (λ out digits addresses form folder few. (out_is rows out folder, few_of rows digits few))))
 
 named : (text name : List ℕ) → name_in text ≡ Some name → IsTrue (is_name name)
 named text name is = elim (cases_Bool (is_name text)) [

@@ -9,7 +9,8 @@ use Rattle.bridge_io.specs.{InOrder.put_all, Outside.{Files, put}}
 use Rattle.bridge_jobs.specs.Laws.{in_folder, playlist_of}
 use Rattle.bridge_jobs.specs.declared.jobs.Addresses.{Addresses, TheVariants.{Absolute, Relative}}
 use Rattle.presentation.specs.Presented.{Presented}
-use Rattle.hls_writer.specs.{Finished.media_text, Master.master_text}
+use Rattle.hls_writer.specs.{Finished.{media_text, targets_of}, Master.master_text}
+use Rattle.track_hints.specs.declared.hints.Hints.{Hints}
 use Rattle.laws_of_playlists.specs.{ReadMedia.Spells, SameFiles.{AreWritten, master_name, playlist_under}}
 use Rattle.url_parts.{proofs.Spellings.{stands_alone, stands_beside}, specs.Spelling.{PlaylistPlace, place_of}}
 use Rattle.live_meaning.specs.{States.{State, Track}, Playlists.{FollowedPlaylist, live_text, playlist_of as followed_of, playlist_with}}
@@ -109,12 +110,12 @@ spells_in Relative base out t =
     subst (λ name. Spells (place_of base out (playlist_of t)) (base ++ name)) (sym (append_assoc out (47 ∷ []) (playlist_of t)))
     (stands_beside base out (playlist_of t))
 
-pub are_written : (output : OutputPlace) (digits : ℕ) (p : Presented) (files : Files) → length p.tracks ≤ 200
-    → AreWritten (put_all (playlists output digits p) files) (output.folder ++ 47 ∷ []) (spelling_in output) p digits
-are_written output digits p files few =
-    let texts = λ (t : ℕ). media_text (spelling_in output t) p digits t in record {
-      master = master_there output.folder texts (master_text p) (length p.tracks) few files;
-      playlists = playlist_there output.folder texts (master_text p) (length p.tracks) few files;
+pub are_written : (output : OutputPlace) (players : Option Hints) (digits : ℕ) (p : Presented) (files : Files) → length p.tracks ≤ 200
+    → AreWritten (put_all (playlists output players digits p) files) (output.folder ++ 47 ∷ []) (spelling_in output) players p digits
+are_written output players digits p files few =
+    let texts = λ (t : ℕ). media_text (spelling_in output t) (targets_of players) p digits t in record {
+      master = master_there output.folder texts (master_text players p) (length p.tracks) few files;
+      playlists = playlist_there output.folder texts (master_text players p) (length p.tracks) few files;
     }
 
 read_text : (place : Option PlaylistPlace) (o : Option FollowedPlaylist) (playlist : FollowedPlaylist) → o ≡ Some playlist
@@ -127,12 +128,13 @@ some_track : (tracks : List Track) (t : ℕ) (o : Option Track) (f : Track → F
 some_track tracks t None f playlist found is = absurd (cc)
 some_track tracks t (Some track) f playlist found is = slice_get_within tracks t track found
 
-pub first_written : (output : OutputPlace) (s : State) (files : Files) → s.common.accepted ≡ 1
-    → length s.tracks ≤ 200 → HoldState (put_all (live_files output s) files) (output.folder ++ 47 ∷ []) (spelling_in output) s
-first_written output s files one few = rw (files_first output s one) (record {
-  master = master_there output.folder (track_text output s) (master_text s.common.opened) (length s.tracks) few files;
+pub first_written : (output : OutputPlace) (players : Option Hints) (s : State) (files : Files) → s.common.accepted ≡ 1
+    → length s.tracks ≤ 200
+    → HoldState (put_all (live_files output players s) files) (output.folder ++ 47 ∷ []) (spelling_in output) players s
+first_written output players s files one few = rw (files_first output players s one) (record {
+  master = master_there output.folder (track_text output s) (master_text players s.common.opened) (length s.tracks) few files;
   playlists = λ t playlist is.
-      playlist_there output.folder (track_text output s) (master_text s.common.opened) (length s.tracks) few files t
+      playlist_there output.folder (track_text output s) (master_text players s.common.opened) (length s.tracks) few files t
       (some_track s.tracks t (slice_get s.tracks t) (playlist_with s.common) playlist refl is)
       ∙ ap (λ text. Some text) (read_text (spelling_in output t) (followed_of s t) playlist is);
 })

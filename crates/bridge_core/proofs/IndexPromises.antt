@@ -16,15 +16,18 @@ use Rattle.laws_of_playlists.specs.SameFiles.{master_name}
 use Rattle.presentation.specs.Meanings.{meaning_of}
 use Rattle.bridge_playlists.specs.Places.{store_place_of}
 use Rattle.bridge_steps.specs.{Done.done_line, Playlists.{playlists, spelling_in}}
-use Rattle.bridge_reach.specs.{Index.{index_outcome, outcome_of, output_of_job, presented}}
-use Rattle.bridge_reach.proofs.Came.{came_from, is_indexed}
+use Rattle.bridge_reach.specs.{Index.{files_of as playlists_of, index_outcome, line_of, outcome_of, output_of_job, presented}}
+use Rattle.bridge_reach.proofs.Came.{came_from, is_told}
+use Rattle.bridge_core.proofs.Fitting.{players_fit}
+use Rattle.laws_of_playlists.specs.Master.{IsFitFor}
+use Rattle.mpd_hints.specs.{Laws.ToldLabelsAreFit, declared.starts.Sap.TheVariants.Subsegments}
 use Rattle.bridge_core.specs.{Courses.{course_of, course_of_job}, IndexPromises.{IndexMeansTheSame, WrittenMeansTheIndexes}}
 use Rattle.bridge_core.proofs.{Asked.{IsBounded, bounded}, DoneAt.{IsDoneAt, done_at}, FileNames.{are_written, spells_in}}
 use Rattle.bridge_core.proofs.Lies.{content_read, lies_of}
 use Rattle.bridge_core.proofs.Promises.{base_folder, holds, spelled_bytes}
 
 module _ (done : DoneIsWhole) (keeps : VerdictKeepsSteps) (names : FoldersHoldTheirFiles) (hold : FoldersHoldFiles)
-    (meant : IndexedTextsAreMeant) (same : WrittenMeansTheIndex)
+    (meant : IndexedTextsAreMeant) (same : WrittenMeansTheIndex) (fit : ToldLabelsAreFit)
     (reads : ReadingsAreOfBytes) (own : OwnTextsAreAddresses) (fewer : IndexedAreFew) where
   promised : (job : IndexJob) (course : Course) (before after : World) (first last : Files) → IsBounded (jobs.HlsIndex job)
       → before.files ≡ Some first → after.files ≡ Some last
@@ -32,13 +35,13 @@ module _ (done : DoneIsWhole) (keeps : VerdictKeepsSteps) (names : FoldersHoldTh
       → IsExecution course status.Done before after
       → IndexMeansTheSame job first last
   promised job course before after first last few_digits was is by run =
-      let place = by.found in let p = by.value in
+      let place = by.found in let p = by.value.0 in let players = by.value.1 in
       let lies = lies_of job.base job.mpd place by.at in
-      let read = is_indexed (10 ^ job.digits) place first p by.is in
+      let told = is_told job.form (10 ^ job.digits) place first by.value by.is in let read = told.indexed in
       let came = came_from (10 ^ job.digits) place first p read in
       let there : first job.mpd ≡ Some read.bytes = ap first (sym lies.file) ∙ content_read place.file first read.bytes read.there in
       let few = fewer p came in
-      let pieces : List (List ℕ × List ℕ) = playlists (output_of_job job) job.digits p in
+      let pieces : List (List ℕ × List ℕ) = playlists (output_of_job job) players job.digits p in
       let files : files_of course ≡ pieces = ap files_of by.goes ∙ append-nil pieces in
       let left : Some last ≡ Some (put_all pieces first) =
       sym is ∙ (done course before after run).files ∙ ap (λ fs. option_map (put_all fs) before.files) files
@@ -49,9 +52,10 @@ module _ (done : DoneIsWhole) (keeps : VerdictKeepsSteps) (names : FoldersHoldTh
         url = own place.url lies.own;
       } in
       let verified : IsVerified p job.digits = record { longest = read.longest; is = read.verified } in
-      let written : AreWritten last (job.out ++ 47 ∷ []) (spelling_in (output_of_job job)) p job.digits =
-      rw last_is (are_written (output_of_job job) job.digits p first few) in
-      let meaning = same p job.digits last job.base (job.out ++ 47 ∷ []) (spelling_in (output_of_job job)) came found verified
+      let written : AreWritten last (job.out ++ 47 ∷ []) (spelling_in (output_of_job job)) players p job.digits =
+      rw last_is (are_written (output_of_job job) players job.digits p first few) in
+      let meaning = same p job.digits last job.base (job.out ++ 47 ∷ []) (spelling_in (output_of_job job)) players came
+      (subst IsFitFor (sym told.players) (players_fit fit Subsegments job.form told.bytes)) found verified
       few_digits.1 (base_folder job.base lies.is_base) (holds names hold job.out (length p.tracks) few_digits.0 few)
       (λ t less. spells_in job.addresses job.base job.out t) written in
       record {
@@ -72,7 +76,7 @@ module _ (done : DoneIsWhole) (keeps : VerdictKeepsSteps) (names : FoldersHoldTh
   unfolding course_of index_outcome
   written_means words job input course before after first last asks was is goes run =
       let asked : IfSome (Some (jobs.HlsIndex job)) IsBounded = subst (λ asked. IfSome asked IsBounded) asks (bounded words) in
-      let by = done_at (playlists (output_of_job job) job.digits) done_line (presented job) keeps before after
+      let by = done_at (playlists_of (output_of_job job) job.digits) line_of (presented job) keeps before after
       (store_place_of job.base job.mpd) first course
       (subst (λ asked. course_of_job asked (Some first) input ≡ Some course) asks goes) run in
       promised job course before after first last asked was is by run

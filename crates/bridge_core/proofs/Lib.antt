@@ -1,6 +1,8 @@
+mod Alike
 mod Lengths
 pub mod Asked
 pub mod FileNames
+mod Fitting
 pub mod Lies
 pub mod DoneAt
 pub mod Promises

@@ -34,7 +34,11 @@ use Rattle.bridge_core.specs.Promises.{MeansTheSame, WrittenMeansTheMpd}
 use Rattle.bridge_playlists.specs.{declared.place.StorePlace.StorePlace, Places.store_place_of}
 use Rattle.bridge_steps.specs.Manifests.{ready_of, values_of}
 use Rattle.bridge_steps.specs.Playlists.{playlists, spelling_in}
-use Rattle.bridge_live.specs.LiveMpds.{live_files, told_of}
+use Rattle.bridge_live.specs.LiveMpds.{channel_with, live_files, told_of}
+use Rattle.bridge_core.proofs.Fitting.{players_fit}
+use Rattle.bridge_steps.specs.Players.{players_in}
+use Rattle.mpd_hints.specs.{Laws.ToldLabelsAreFit, declared.starts.Sap.TheVariants.Segments}
+use Rattle.track_hints.specs.declared.hints.Hints.{Hints}
 use Rattle.bridge_core.proofs.{Asked.{IsBounded, bounded}, FileNames.{are_written, first_written, spells_in}, DoneAt.{IsDoneAt, done_at}}
 use Rattle.bridge_core.proofs.Lies.{Lies, content_read, lies_of}
 use Rattle.bridge_steps.proofs.Static.{IsSpelled, IsStatic, spelled_of, static_ready}
@@ -48,7 +52,7 @@ not_true b e = grind arith
 record IsStaticAt (job : HlsJob) (url bytes : List ℕ) (value : Translation) : Type 0 where
   p : Presented
   read : IsStatic (10 ^ job.digits) bytes url job.instant p
-  is : value ≡ Static job.digits p
+  is : value ≡ Static job.digits (players_in job.form Segments bytes) p
 
 -- of a live one
 record IsLiveAt (job : HlsJob) (url bytes : List ℕ) (value : Translation) : Type 0 where
@@ -58,26 +62,30 @@ record IsLiveAt (job : HlsJob) (url bytes : List ℕ) (value : Translation) : Ty
   spelled : IsSpelled bytes mpd
   state : State
   begun : begun_of (terms_at job url) mpd now ≡ Ok state
-  is : value ≡ Live state
+  is : value ≡ Live (channel_with (players_in job.form Segments bytes) state)
+
+abbrev said : HlsJob → List ℕ → Option Hints
+said job bytes = players_in job.form Segments bytes
 
 static_at : (job : HlsJob) (url bytes : List ℕ) (mpd : Values) (value : Translation) → values_of bytes ≡ Ok mpd → mpd.facts.live ≡ false
-    → static_translation job url mpd ≡ Ok value → IsStaticAt job url bytes value
+    → static_translation job url (said job bytes) mpd ≡ Ok value → IsStaticAt job url bytes value
 unfolding static_translation
 static_at job url bytes mpd value read static is =
-    let ready = steps_of (ready_of (10 ^ job.digits) url job.instant mpd) (λ p. Ok (Static job.digits p)) value is in
+    let ready = steps_of (ready_of (10 ^ job.digits) url job.instant mpd) (λ p. Ok (Static job.digits (said job bytes) p)) value is in
     record {
       p = ready.value;
       read = static_ready (10 ^ job.digits) bytes url job.instant mpd ready.value read static ready.first;
-      is = (let same : Static job.digits ready.value ≡ value = (let told = ready.then in cc) in sym same);
+      is = (let same : Static job.digits (said job bytes) ready.value ≡ value = (let told = ready.then in cc) in sym same);
     }
 
 live_at : (job : HlsJob) (url bytes : List ℕ) (mpd : Values) (now : Option ℤ) (value : Translation) → values_of bytes ≡ Ok mpd
     → job.instant ≡ now
-    → live_translation job url now mpd ≡ Ok value → IsLiveAt job url bytes value
+    → live_translation job url (said job bytes) now mpd ≡ Ok value → IsLiveAt job url bytes value
 unfolding live_translation
 live_at job url bytes mpd None value read at is = absurd (cc)
 live_at job url bytes mpd (Some now) value read at is =
-    let told = steps_of (told_as told_of (begun_of (terms_at job url) mpd now)) (λ s. Ok (Live s)) value is in
+    let told = steps_of (told_as told_of (begun_of (terms_at job url) mpd now)) (λ s. Ok (Live (channel_with (said job bytes) s)))
+    value is in
     record {
       now = now;
       instant = at;
@@ -85,12 +93,13 @@ live_at job url bytes mpd (Some now) value read at is =
       spelled = spelled_of bytes mpd read;
       state = told.value;
       begun = ok_under told_of (begun_of (terms_at job url) mpd now) told.value told.first;
-      is = (let same : Live told.value ≡ value = (let rest = told.then in cc) in sym same);
+      is = (let same : Live (channel_with (said job bytes) told.value) ≡ value = (let rest = told.then in cc) in sym same);
     }
 
 by_kind : (job : HlsJob) (url bytes : List ℕ) (mpd : Values) (live : Bool) (value : Translation) → values_of bytes ≡ Ok mpd
     → mpd.facts.live ≡ live
-    → (if live then live_translation job url job.instant mpd else static_translation job url mpd) ≡ Ok value
+    → (if live then live_translation job url (said job bytes) job.instant mpd else static_translation job url (said job bytes) mpd)
+    ≡ Ok value
     → IsStaticAt job url bytes value ⊎ IsLiveAt job url bytes value
 by_kind job url bytes mpd true value read kind is = inr (live_at job url bytes mpd job.instant value read refl is)
 by_kind job url bytes mpd false value read kind is = inl (static_at job url bytes mpd value read kind is)
@@ -99,7 +108,7 @@ kind_of : (job : HlsJob) (url bytes : List ℕ) (value : Translation) → transl
     → IsStaticAt job url bytes value ⊎ IsLiveAt job url bytes value
 unfolding translation_of
 kind_of job url bytes value is =
-    let read = steps_of (values_of bytes) (translation_by job url) value is in
+    let read = steps_of (values_of bytes) (translation_by job url (said job bytes)) value is in
     by_kind job url bytes read.value read.value.facts.live value read.first refl read.then
 
 -- bytes that spell a tree are UTF-8, and so bytes
@@ -161,7 +170,7 @@ first_tracks c =
     ∙ length-range_with_len 0 (length c.opened.tracks)
 
 module _ (names : FoldersHoldTheirFiles) (hold : FoldersHoldFiles) (meant : TextsAreMeant) (same : WrittenMeansTheSame)
-    (first_same : FirstFilesMeanTheSame)
+    (first_same : FirstFilesMeanTheSame) (fit : ToldLabelsAreFit)
     (reads : ReadingsAreOfBytes) (own : OwnTextsAreAddresses) (fewer : HaveFewTracks) where
   module _ (job : HlsJob) (place : StorePlace) (first : Files) (asked : IsBounded (jobs.Hls job)) (lies : Lies job.base job.mpd place) where
     abbrev prefix : List ℕ
@@ -171,7 +180,7 @@ module _ (names : FoldersHoldTheirFiles) (hold : FoldersHoldFiles) (meant : Text
     room p few = holds names hold job.out (length p.tracks) asked.0 few
 
     static_means : (bytes : List ℕ) (p : Presented) → IsStatic (10 ^ job.digits) bytes place.url job.instant p
-        → Means job place.url bytes (put_all (files_of (output_of_job job) (Static job.digits p)) first)
+        → Means job place.url bytes (put_all (files_of (output_of_job job) (Static job.digits (said job bytes) p)) first)
     static_means bytes p read =
         let few = fewer p (of_static p read.came) in
         let found : IsFound read.came.tree read.came.url = record {
@@ -183,16 +192,16 @@ module _ (names : FoldersHoldTheirFiles) (hold : FoldersHoldFiles) (meant : Text
           text = meant bytes place.url job.instant read.came.tree read.came.mpd p read.spelled read.came.typed
               (subst (λ u. presented_of read.came.mpd u job.instant ≡ Ok p) read.at
               (subst (λ now. presented_of read.came.mpd read.came.url now ≡ Ok p) read.instant read.came.presented));
-          files = same p job.digits (put_all (playlists (output_of_job job) job.digits p) first) job.base prefix
-              (spelling_in (output_of_job job)) read.came
+          files = same p job.digits (put_all (playlists (output_of_job job) (said job bytes) job.digits p) first) job.base prefix
+              (spelling_in (output_of_job job)) (said job bytes) read.came (players_fit fit Segments job.form bytes)
               found
               (record { longest = read.longest; is = read.all }) asked.1 (base_folder job.base lies.is_base) (room p few)
-              (λ t less. spells_in job.addresses job.base job.out t) (are_written (output_of_job job) job.digits p first few);
+              (λ t less. spells_in job.addresses job.base job.out t) (are_written (output_of_job job) (said job bytes) job.digits p first few);
         }
 
     live_means : (bytes : List ℕ) (mpd : Values) (now : ℤ) (s : State) → IsSpelled bytes mpd → job.instant ≡ Some now
         → begun_of (terms_at job place.url) mpd now ≡ Ok s
-        → Means job place.url bytes (put_all (files_of (output_of_job job) (Live s)) first)
+        → Means job place.url bytes (put_all (files_of (output_of_job job) (Live (channel_with (said job bytes) s))) first)
     live_means bytes mpd now s spelled instant begun =
         let terms = terms_at job place.url in
         let is = begun_is terms mpd now s begun in let p = s.common.opened in
@@ -225,11 +234,11 @@ module _ (names : FoldersHoldTheirFiles) (hold : FoldersHoldFiles) (meant : Text
           p = p;
           text = ap (dash_meaning bytes place.url) instant
               ∙ meant bytes place.url (Some now) spelled.tree mpd p spelled.reading spelled.typed presented;
-          files = first_same terms mpd now s (put_all (live_files (output_of_job job) s) first) job.base prefix
-              (spelling_in (output_of_job job)) followed begun
+          files = first_same terms mpd now s (put_all (live_files (output_of_job job) (said job bytes) s) first) job.base prefix
+              (spelling_in (output_of_job job)) (said job bytes) (players_fit fit Segments job.form bytes) followed begun
               (base_folder job.base lies.is_base) (room p few)
               (λ t less. spells_in job.addresses job.base job.out t)
-              (first_written (output_of_job job) s first (ap (λ (s : State). s.common.accepted) is.state) (omega (arith, few, many)));
+              (first_written (output_of_job job) (said job bytes) s first (ap (λ (s : State). s.common.accepted) is.state) (omega (arith, few, many)));
         }
 
     means_by : (bytes : List ℕ) (value : Translation) → IsStaticAt job place.url bytes value ⊎ IsLiveAt job place.url bytes value

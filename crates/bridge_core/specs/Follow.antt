@@ -16,7 +16,8 @@ output_of_job job = output_of job.addresses job.base job.out
 
 -- the MPD has this location, and its update frames come from the input
 abbrev pub follow_at : FollowJob → (input : Option (List ℕ)) → StorePlace → Option Course
-follow_at job input place = option_map (follow_course (followed_mpd (terms_at job place) (output_of_job job)) frame_stream None) input
+follow_at job input place =
+    option_map (follow_course (followed_mpd job.form (terms_at job place) (output_of_job job)) frame_stream None) input
 
 unfoldable pub followed_course : FollowJob → (input : Option (List ℕ)) → Option Course
 followed_course job input = course_placed (follow_at job input) (store_place_of job.base job.name)

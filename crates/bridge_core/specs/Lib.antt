@@ -1,3 +1,4 @@
+pub mod Alike
 pub mod ComparePromises
 pub mod Courses
 pub mod Dash

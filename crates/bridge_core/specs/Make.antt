@@ -36,9 +36,9 @@ source_name = codes "source.mpd"
 abbrev pub source_file : (out : List ℕ) (seed : ℕ) → List ℕ × List ℕ
 source_file out seed = (in_folder out source_name, source_text seed)
 
--- the MPD first, and then its playlists, whose URLs are absolute
+-- the MPD first, and then its playlists, plain ones with absolute URLs
 abbrev pub made_files : MakeJob → Presented → List (List ℕ × List ℕ)
-made_files job p = source_file job.out job.seed ∷ playlists (record { folder = job.out; base = None }) job.digits p
+made_files job p = source_file job.out job.seed ∷ playlists (record { folder = job.out; base = None }) None job.digits p
 
 -- ---- how the command ends
 

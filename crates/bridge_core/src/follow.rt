@@ -38,6 +38,7 @@ pub fn run<I: Source, F: Store, P: Sink, L: Ledger>(
                 out: job.out,
                 base: base_if(job.addresses, place.folder),
                 digits: job.digits,
+                form: job.form,
             };
             follow(alloc, &mpd, None, input, store, report, steps)
         }

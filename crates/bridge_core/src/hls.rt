@@ -16,17 +16,17 @@ ghost use Rattle.bridge_core.specs.Hls as spec;
 use bridge_courses::Ending;
 use bridge_io::{Bytes, Ledger, NoMemory, Steps, Store, Text};
 use bridge_jobs::HlsJob;
-use bridge_live::{begin_session, write_live_files};
+use bridge_live::{Channel, begin_session, write_live_files};
 use bridge_playlists::StorePlace;
 use bridge_report::{Halt, Refusal, Stop, content_of, halted};
 use bridge_steps::{
-    Output, Ready, done_line, place_in, ready_of, values_of, write_playlists, written,
+    Output, Ready, done_line, place_in, ready_of, values_for, write_playlists, written,
 };
 use hls_writer::OutFault;
-use live_session::Session;
 use mpd_rules::Mpd;
 use presentation::PresentationFault;
 use std::alloc::Global;
+use track_hints::Hints;
 use url_parts::Base;
 
 /// What is written for an MPD.
@@ -34,8 +34,8 @@ use url_parts::Base;
 pub enum Translation {
     /// The presentation of a static one.
     Static(Ready),
-    /// The session of a live one, as after the first update frame of a stream.
-    Live(Session),
+    /// The channel of a live one, as after the first update frame of a stream.
+    Live(Channel),
 }
 
 /// Writes the playlists for the command's MPD, unless it is rejected. For a live one they are those that `follow` writes after
@@ -96,11 +96,11 @@ fn translation_of<L: Ledger>(
     requires { IfSome job.now.instant IsReadable }
     ensures { Gives spec.translated refused_in result (spec.translation_of job.now url.now bytes) }
 {
-    let mpd = values_of(alloc, bytes)?;
+    let (mpd, players) = values_for(alloc, bytes, job.form)?;
     if mpd.live() {
-        return live_translation(alloc, job, url, &mpd, steps);
+        return live_translation(alloc, job, url, players, &mpd, steps);
     }
-    let ready = ready_of(alloc, &mpd, url, job.instant, job.digits, steps)?;
+    let ready = ready_of(alloc, &mpd, url, job.instant, job.digits, players, steps)?;
     Ok(Translation::Static(ready))
 }
 
@@ -110,18 +110,20 @@ fn live_translation<L: Ledger>(
     alloc: Global,
     job: &HlsJob,
     url: &Base,
+    players: Option<Hints>,
     mpd: &Mpd,
     steps: &mut Steps<L>,
 ) -> Result<Translation, Stop>
     requires now { IfSome job.now.instant IsReadable }
     requires typed { IsTyped (Some (segments_mpd mpd.now)) }
-    ensures { Gives spec.translated refused_in result (spec.live_translation job.now url.now job.now.instant (segments_mpd mpd.now)) }
+    ensures { Gives spec.translated refused_in result
+        (spec.live_translation job.now url.now players job.now.instant (segments_mpd mpd.now)) }
 {
     let Some(now) = job.instant else {
         return Err(Stop::Refused(Refusal::Presentation(PresentationFault::NeedsNow)));
     };
     let session = begin_session(alloc, url, job.digits, mpd, now, steps)?;
-    Ok(Translation::Live(session))
+    Ok(Translation::Live(Channel { session, players }))
 }
 
 /// Writes the playlists of an MPD.
@@ -149,7 +151,7 @@ fn line_of(alloc: Global, translation: &Translation) -> Result<Text, NoMemory>
 {
     match translation {
         Translation::Static(ready) => done_line(alloc, &ready.presentation),
-        Translation::Live(session) => done_line(alloc, session.first()),
+        Translation::Live(channel) => done_line(alloc, channel.session.first()),
     }
 }
 
@@ -170,6 +172,8 @@ fn write_files<F: Store, L: Ledger>(
 {
     match translation {
         Translation::Static(ready) => write_playlists(alloc, output, ready, store, steps),
-        Translation::Live(session) => write_live_files(alloc, output, session, store),
+        Translation::Live(channel) => {
+            write_live_files(alloc, output, &channel.session, &channel.players, store)
+        }
     }
 }

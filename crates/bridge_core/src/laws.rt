@@ -1,4 +1,5 @@
 //! Laws of the program's runs. The functions do nothing: what they ensure is the law.
+ghost use Rattle.bridge_core.specs.Alike.{FormsEndAlike};
 ghost use Rattle.bridge_core.specs.ComparePromises.{ComparedAsChecked, ComparedTellsAll};
 ghost use Rattle.bridge_core.specs.IndexPromises.{WrittenMeansTheIndexes};
 ghost use Rattle.bridge_core.specs.Promises.{DifferIsApart, DoneIsAgreed, WrittenMeansTheMpd, WrittenMpdMeansThePlaylists};
@@ -22,6 +23,7 @@ use laws_of_playlists::{
 };
 use laws_of_reloads::first_files_mean_the_same;
 use meaning::agreeing_has_no_difference;
+use mpd_hints::laws::told_labels_are_fit;
 use mpd_presentation::presentations_mean_their_mpd;
 
 /// Where a run of `hls` succeeds, the playlists that it wrote mean what the MPD means, a live one at the command's time: the
@@ -39,7 +41,14 @@ pub fn what_is_written_means_the_mpd()
     first_files_mean_the_same();
     read_trees_are_of_bytes();
     tracks_are_writable();
+    told_labels_are_fit();
 }
+
+/// Runs of `hls`, `hls-index` and `follow` that differ in `--form` and `--addresses` alone are rejected alike, report the same
+/// lines, and write files of the same names.
+pub fn forms_end_alike()
+    ensures { FormsEndAlike }
+{}
 
 /// Where a run of `hls-index` succeeds, the playlists that it wrote mean what the MPD means with the `sidx` of its media files:
 /// the same tracks, URLs and byte ranges in order, and each time rounded down to the unit of the printed durations (ISO/IEC
@@ -55,6 +64,7 @@ pub fn what_is_written_means_the_indexes()
     indexes_mean_what_they_list();
     indexed_parts_can_be_written();
     written_indexes_mean_the_same();
+    told_labels_are_fit();
 }
 
 /// Where a run of `dash` succeeds, the MPD that it wrote means, at any URL and time, what the master playlist and its media

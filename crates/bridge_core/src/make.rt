@@ -1,5 +1,5 @@
 // From a generated MPD to playlists.
-ghost use Rattle.std.specs.Prelude.{◌≡◌, ◌^◌, ◌++◌, Ok, Some, IfOk, OnOk, OnErr};
+ghost use Rattle.std.specs.Prelude.{◌≡◌, ◌^◌, ◌++◌, Ok, Some, None, IfOk, OnOk, OnErr};
 ghost use Rattle.std.specs.String.{string_bytes};
 ghost use Rattle.bridge_io.specs.Fault.{HasCause};
 ghost use Rattle.bridge_io.specs.InOrder.{put_all, MayBegin, AreBegun};
@@ -87,6 +87,7 @@ fn write<F: Store, L: Ledger>(
 ) -> Ending
     requires text { text.now ≡ source_text job.now.seed }
     requires digits { ready.now.digits ≡ job.now.digits }
+    requires plain { ready.now.players ≡ None }
     ensures ends { JobEndsAs (Some (spec.outcome_of job.now (Ok ready.now.presentation))) result
         (around F.Store store.old steps.old) (around F.Store store.new steps.new) }
     ensures never_reads { NeverReads result (F.read_faults store.old) (F.read_faults store.new) }
@@ -108,6 +109,7 @@ fn write_files<F: Store, L: Ledger>(
 ) -> Result<(), OutFault>
     requires text { text.now ≡ source_text job.now.seed }
     requires digits { ready.now.digits ≡ job.now.digits }
+    requires plain { ready.now.players ≡ None }
     ensures ok { OnOk result (Changes (put_all (spec.made_files job.now ready.now.presentation)) (F.files store.old) (F.files store.new)) }
     ensures err { OnErr result (AreBegun (spec.made_files job.now ready.now.presentation) (F.files store.old) (F.files store.new)) }
     ensures cause { HasCause WriteFault (F.write_faults store.old) (F.write_faults store.new) result }

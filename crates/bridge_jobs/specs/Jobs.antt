@@ -114,7 +114,8 @@ hls_of rows = do
   out ← out_of rows
   digits ← digits_of rows
   addresses ← addresses_of rows
-  Some (record { mpd = mpd; base = base; instant = instant; out = out; digits = digits; addresses = addresses })
+  form ← form_of rows
+  Some (record { mpd = mpd; base = base; instant = instant; out = out; digits = digits; addresses = addresses; form = form })
 
 unfoldable pub master_of : List Row → Option MasterJob
 master_of rows = do
@@ -131,7 +132,8 @@ follow_of rows = do
   out ← out_of rows
   digits ← digits_of rows
   addresses ← addresses_of rows
-  Some (record { name = name; base = base; out = out; digits = digits; addresses = addresses })
+  form ← form_of rows
+  Some (record { name = name; base = base; out = out; digits = digits; addresses = addresses; form = form })
 
 unfoldable pub show_of : List Row → Option ShowJob
 show_of rows = do
@@ -170,7 +172,8 @@ index_of rows = do
   out ← out_of rows
   digits ← digits_of rows
   addresses ← addresses_of rows
-  Some (record { mpd = mpd; base = base; out = out; digits = digits; addresses = addresses })
+  form ← form_of rows
+  Some (record { mpd = mpd; base = base; out = out; digits = digits; addresses = addresses; form = form })
 
 unfoldable pub agree_of : List Row → Option AgreeJob
 agree_of rows = do

@@ -18,16 +18,16 @@ required_option name = record (option name) { required = true }
 -- the parameters of each command
 abbrev pub parameters_of : Verb → List Rule
 parameters_of Hls = positional (codes "mpd") ∷ required_option (codes "base") ∷ option (codes "now") ∷ option (codes "out")
-    ∷ option (codes "digits") ∷ option (codes "addresses") ∷ []
+    ∷ option (codes "digits") ∷ option (codes "addresses") ∷ option (codes "form") ∷ []
 parameters_of Dash = positional (codes "master") ∷ required_option (codes "base") ∷ option (codes "out") ∷ option (codes "form") ∷ []
 parameters_of Follow = positional (codes "name") ∷ required_option (codes "base") ∷ option (codes "out") ∷ option (codes "digits")
-    ∷ option (codes "addresses") ∷ []
+    ∷ option (codes "addresses") ∷ option (codes "form") ∷ []
 parameters_of Show = positional (codes "file") ∷ required_option (codes "base") ∷ option (codes "now") ∷ option (codes "digits") ∷ []
 parameters_of Check = positional (codes "mpd") ∷ positional (codes "master") ∷ required_option (codes "base") ∷ option (codes "digits") ∷ []
 parameters_of Reload = positional (codes "old") ∷ positional (codes "new") ∷ required_option (codes "base") ∷ []
 parameters_of Make = required_option (codes "seed") ∷ option (codes "out") ∷ option (codes "digits") ∷ []
 parameters_of HlsIndex = positional (codes "mpd") ∷ required_option (codes "base") ∷ option (codes "out") ∷ option (codes "digits")
-    ∷ option (codes "addresses") ∷ []
+    ∷ option (codes "addresses") ∷ option (codes "form") ∷ []
 parameters_of DashTimes = positional (codes "master") ∷ required_option (codes "base") ∷ option (codes "out") ∷ option (codes "form") ∷ []
 parameters_of Agree = positional (codes "mpd") ∷ required_option (codes "base") ∷ []
 parameters_of FollowHls = positional (codes "master") ∷ required_option (codes "base") ∷ option (codes "out") ∷ option (codes "form") ∷ []

@@ -8,8 +8,9 @@ use segment_forms::Form;
 ///
 /// A `base` is the URL of the directory that the store's root stands for, as it is written. An `out` is the directory
 /// of the files that are written, at most 242 bytes long. `digits` is the number of decimals of printed durations.
-/// `instant` is the time at which a live MPD is read. `form` is how an MPD gives the segments of its tracks. `addresses`
-/// is how playlists give the URLs of their segments.
+/// `instant` is the time at which a live MPD is read. `form` is whether what is written is plain or for players: how an MPD
+/// gives the segments of its tracks, and what a master playlist says of them. `addresses` is how playlists give the URLs
+/// of their segments.
 #[derive(Drop)]
 pub enum Job {
     /// Converts an MPD to playlists.
@@ -62,6 +63,8 @@ pub struct HlsJob {
     pub digits: Digits,
     /// How the playlists give URLs.
     pub addresses: Addresses,
+    /// Whether the playlists are plain or for players.
+    pub form: Form,
 }
 
 /// The arguments of the commands that convert a master playlist to an MPD.
@@ -90,6 +93,8 @@ pub struct FollowJob {
     pub digits: Digits,
     /// How the playlists give URLs.
     pub addresses: Addresses,
+    /// Whether the playlists are plain or for players.
+    pub form: Form,
 }
 
 /// The arguments of `show`.
@@ -153,6 +158,8 @@ pub struct IndexJob {
     pub digits: Digits,
     /// How the playlists give URLs.
     pub addresses: Addresses,
+    /// Whether the playlists are plain or for players.
+    pub form: Form,
 }
 
 /// The arguments of `agree`.

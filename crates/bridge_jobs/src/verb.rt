@@ -47,13 +47,14 @@ pub enum Parameter {
 
 use Parameter::{Optional, Positional, Required};
 
-static HLS: [Parameter; 6] = [
+static HLS: [Parameter; 7] = [
     Positional("mpd"),
     Required("base"),
     Optional("now"),
     Optional("out"),
     Optional("digits"),
     Optional("addresses"),
+    Optional("form"),
 ];
 
 static DASH: [Parameter; 4] = [
@@ -63,12 +64,13 @@ static DASH: [Parameter; 4] = [
     Optional("form"),
 ];
 
-static FOLLOW: [Parameter; 5] = [
+static FOLLOW: [Parameter; 6] = [
     Positional("name"),
     Required("base"),
     Optional("out"),
     Optional("digits"),
     Optional("addresses"),
+    Optional("form"),
 ];
 
 static SHOW: [Parameter; 4] = [
@@ -87,12 +89,13 @@ static CHECK: [Parameter; 4] = [
 
 static RELOAD: [Parameter; 3] = [Positional("old"), Positional("new"), Required("base")];
 
-static HLS_INDEX: [Parameter; 5] = [
+static HLS_INDEX: [Parameter; 6] = [
     Positional("mpd"),
     Required("base"),
     Optional("out"),
     Optional("digits"),
     Optional("addresses"),
+    Optional("form"),
 ];
 
 static AGREE: [Parameter; 2] = [Positional("mpd"), Required("base")];

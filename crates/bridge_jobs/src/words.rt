@@ -92,6 +92,7 @@ fn hls(alloc: Global, values: &Values) -> Result<HlsJob, WordsFault>
         out: values.out(alloc)?,
         digits: values.digits()?,
         addresses: values.addresses()?,
+        form: values.form()?,
     })
 }
 
@@ -119,6 +120,7 @@ fn follow(alloc: Global, values: &Values) -> Result<FollowJob, WordsFault>
         out: values.out(alloc)?,
         digits: values.digits()?,
         addresses: values.addresses()?,
+        form: values.form()?,
     })
 }
 
@@ -181,6 +183,7 @@ fn index(alloc: Global, values: &Values) -> Result<IndexJob, WordsFault>
         out: values.out(alloc)?,
         digits: values.digits()?,
         addresses: values.addresses()?,
+        form: values.form()?,
     })
 }
 

@@ -23,7 +23,9 @@ use Rattle.bridge_steps.specs.Playlists.{OutputPlace}
 use Rattle.bridge_live.specs.LiveMpds.{IsTaken, first_appends, frame_appends, frame_state, frame_stream, followed_mpd, next_state}
 use Rattle.bridge_steps.specs.Manifests.{values_of}
 use Rattle.bridge_steps.specs.Streams.{ReadsFirst}
-use Rattle.bridge_live.specs.LiveMpds.{told_of, update_of}
+use Rattle.bridge_live.specs.LiveMpds.{channel_with, judged_channel, players_after, session_of, told_of, update_of}
+use Rattle.bridge_live.specs.declared.channel.Channel.{Channel}
+use Rattle.segment_forms.specs.declared.form.Form.{Form}
 use Rattle.bridge_live.proofs.LiveStates.{first_is_one, first_lists, one_more_of}
 
 -- ---- a stream that is read frame by frame
@@ -64,22 +66,22 @@ refused_text None m is = tt
 refused_text (Some r) m is = ap (λ answer. option_map refusal_text (result_err answer)) is
 
 -- a frame that is refused is told so
-pub refused_so : {V : Type 0} (terms : Terms) (output : OutputPlace) (s : Option State) (x : Frame) (value : V → State)
+pub refused_so : {V : Type 0} (form : Form) (terms : Terms) (output : OutputPlace) (c : Option Channel) (x : Frame) (value : V → State)
     (result : Result V Stop)
-    → Gives value refused_in result (frame_state terms s x)
-    → IfErr result (λ stop. IfSome (refused_in stop) (λ r. (followed_mpd terms output).refusal s x ≡ Some (refusal_text r)))
-refused_so terms output s x value (Ok v) state = tt
-refused_so terms output s x value (Err stop) state = refused_text (refused_in stop) (frame_state terms s x) state
+    → Gives value refused_in result (frame_state terms (session_of c) x)
+    → IfErr result (λ stop. IfSome (refused_in stop) (λ r. (followed_mpd form terms output).refusal c x ≡ Some (refusal_text r)))
+refused_so form terms output c x value (Ok v) state = tt
+refused_so form terms output c x value (Err stop) state = refused_text (refused_in stop) (frame_state terms (session_of c) x) state
 
 -- ---- what is accepted
 
-module _ (terms : Terms) (output : OutputPlace) (s : Option State) (x : Frame) (after : State) where
-  pub accepted_so : (n made made' : ℕ) → frame_state terms s x ≡ Ok after → n ≡ frame_appends terms s x
-      → made' ≡ made + frame_appends terms s x
-      → Accepts (followed_mpd terms output) s x (Some after) n made made'
+module _ (form : Form) (terms : Terms) (output : OutputPlace) (c : Option Channel) (x : Frame) (after : State) where
+  pub accepted_so : (n made made' : ℕ) → frame_state terms (session_of c) x ≡ Ok after → n ≡ frame_appends terms (session_of c) x
+      → made' ≡ made + frame_appends terms (session_of c) x
+      → Accepts (followed_mpd form terms output) c x (Some (channel_with (players_after form c x) after)) n made made'
   accepted_so n made made' state appended counts = record {
     accepted = ap (λ answer. option_map refusal_text (result_err answer)) state;
-    after = sym (ap result_ok state);
+    after = sym (ap (judged_channel (players_after form c x)) state);
     appended = appended;
     made = counts;
   }

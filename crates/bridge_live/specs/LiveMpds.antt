@@ -14,7 +14,11 @@ use Rattle.live_judge.specs.{Faults.told, declared.fault.RefreshFault.RefreshFau
 use Rattle.live_session.specs.{declared.session.Appended.Appended, Sessions.text_of}
 use Rattle.bridge_report.specs.{Following.Followed, Refusals.{refusal_text, refused_in}, declared.refusal.Refusal.Refusal}
 use Rattle.bridge_report.specs.declared.refusal.Stop.{Stop}
-use Rattle.bridge_steps.specs.{Manifests.values_of, Playlists.{OutputPlace, spelling_in}, Streams.Stream}
+use Rattle.bridge_steps.specs.{Manifests.values_of, Players.players_in, Playlists.{OutputPlace, spelling_in}, Streams.Stream}
+use Rattle.bridge_live.specs.declared.channel.Channel.{Channel}
+use Rattle.mpd_hints.specs.declared.starts.Sap.TheVariants.{Segments}
+use Rattle.segment_forms.specs.declared.form.Form.{Form}
+use Rattle.track_hints.specs.declared.hints.Hints.{Hints}
 
 -- ---- why a frame is rejected
 
@@ -97,23 +101,50 @@ track_file output s t = (in_folder output.folder (playlist_of t), track_text out
 abbrev pub track_files : OutputPlace → State → List (List ℕ × List ℕ)
 track_files output s = map (track_file output s) (range_with_len 0 (length s.tracks))
 
-abbrev pub master_file : (out : List ℕ) → State → List ℕ × List ℕ
-master_file out s = (in_folder out (codes "master.m3u8"), master_text s.common.opened)
+abbrev pub master_file : (out : List ℕ) → (players : Option Hints) → State → List ℕ × List ℕ
+master_file out players s = (in_folder out (codes "master.m3u8"), master_text players s.common.opened)
 
 -- the playlists of the tracks in order, and after the first accepted frame the master playlist last, which is that of the
 -- first MPD
-abbrev pub live_files : OutputPlace → State → List (List ℕ × List ℕ)
-live_files output s = track_files output s ++ (if s.common.accepted == 1 then master_file output.folder s ∷ [] else [])
+abbrev pub live_files : OutputPlace → (players : Option Hints) → State → List (List ℕ × List ℕ)
+live_files output players s =
+    track_files output s ++ (if s.common.accepted == 1 then master_file output.folder players s ∷ [] else [])
 
 -- ---- what is followed
 
-abbrev pub followed_mpd : Terms → OutputPlace → Followed (Option State) Frame
-followed_mpd terms output = record {
-  refusal = λ s x. option_map refusal_text (result_err (frame_state terms s x));
-  after = λ s x. result_ok (frame_state terms s x);
-  files = λ s. option_map_or (live_files output) s [];
-  appended = frame_appends terms;
-  makes = frame_appends terms;
+abbrev pub session_of : Option Channel → Option State
+session_of channel = option_map (λ c. c.session) channel
+
+-- what a frame says for players, if it carries an MPD
+abbrev pub frame_players : Form → Frame → Option Hints
+frame_players form (frame.Mpd now body) = players_in form Segments body
+frame_players form other = None
+
+-- what the first accepted MPD says for players, after a frame
+abbrev pub players_after : Form → Option Channel → Frame → Option Hints
+players_after form None x = frame_players form x
+players_after form (Some channel) x = channel.players
+
+abbrev pub channel_with : (players : Option Hints) → State → Channel
+channel_with players s = record { session = s; players = players }
+
+abbrev pub judged_channel : (players : Option Hints) → Result State Refusal → Option Channel
+judged_channel players judged = option_map (channel_with players) (result_ok judged)
+
+abbrev pub channel_files : OutputPlace → Channel → List (List ℕ × List ℕ)
+channel_files output channel = live_files output channel.players channel.session
+
+-- the report's text where a frame is rejected
+abbrev pub frame_refusal : Terms → Option State → Frame → Option (List ℕ)
+frame_refusal terms s x = option_map refusal_text (result_err (frame_state terms s x))
+
+abbrev pub followed_mpd : Form → Terms → OutputPlace → Followed (Option Channel) Frame
+followed_mpd form terms output = record {
+  refusal = λ c x. frame_refusal terms (session_of c) x;
+  after = λ c x. judged_channel (players_after form c x) (frame_state terms (session_of c) x);
+  files = λ c. option_map_or (channel_files output) c [];
+  appended = λ c x. frame_appends terms (session_of c) x;
+  makes = λ c x. frame_appends terms (session_of c) x;
 }
 
 -- the frames of a stream of bytes

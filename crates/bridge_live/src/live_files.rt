@@ -11,9 +11,10 @@ use bridge_steps::{Output, write_the_master};
 use hls_writer::OutFault;
 use live_session::Session;
 use std::alloc::Global;
+use track_hints::Hints;
 
 /// Writes the playlists of a followed presentation to the files of a folder: that of each track in order, and after the first
-/// accepted frame the master playlist last.
+/// accepted frame the master playlist last; for players, where it is given what the first MPD says for them.
 ///
 /// After an error the files before one of them are complete, and that one is as it was or truncated. [`OutFault::WriteFault`]
 /// comes only where the store's count of failed writes rose.
@@ -21,16 +22,17 @@ pub fn write_live_files<F: Store>(
     alloc: Global,
     output: &Output<'_>,
     session: &Session,
+    players: &Option<Hints>,
     store: &mut F,
 ) -> Result<(), OutFault>
-    ensures ok { OnOk result (Changes (put_all (spec.live_files output.now session.now)) (F.files store.old) (F.files store.new)) }
-    ensures err { OnErr result (AreBegun (spec.live_files output.now session.now) (F.files store.old) (F.files store.new)) }
+    ensures ok { OnOk result (Changes (put_all (spec.live_files output.now players.now session.now)) (F.files store.old) (F.files store.new)) }
+    ensures err { OnErr result (AreBegun (spec.live_files output.now players.now session.now) (F.files store.old) (F.files store.new)) }
     ensures cause { HasCause WriteFault (F.write_faults store.old) (F.write_faults store.new) result }
     ensures reads { F.read_faults store.new ≡ F.read_faults store.old }
 {
     write_tracks(alloc, output, session, store)?;
     if session.accepted() == 1 {
-        return write_the_master(alloc, output.folder(), session.first(), store);
+        return write_the_master(alloc, output.folder(), players, session.first(), store);
     }
     Ok(())
 }

@@ -13,17 +13,22 @@ ghost use Rattle.live_meaning.specs.Updates.{Terms};
 ghost use Rattle.bridge_report.specs.Refusals.{refused_in};
 ghost use Rattle.bridge_live.specs.LiveMpds as spec;
 ghost use Rattle.bridge_steps.specs.Manifests.{values_of};
+ghost use Rattle.bridge_steps.specs.Players.{players_in};
+ghost use Rattle.mpd_hints.specs.declared.starts.Sap.TheVariants.{Segments};
 
+use crate::channel::Channel;
 use bridge_io::{Bytes, Ledger, Steps};
 use bridge_jobs::Frame;
 use bridge_report::{Refusal, Stop, UpdateFault};
-use bridge_steps::values_of;
+use bridge_steps::{values_for, values_of};
 use exact_time::Digits;
 use iso_time::Instant;
 use live_session::{Appended, RefreshFault, Session};
 use mpd_rules::Mpd;
 use presentation::answers_allow_listings;
+use segment_forms::Form;
 use std::alloc::Global;
+use track_hints::Hints;
 use url_parts::Base;
 
 /// The session that an MPD begins at a time, or why it begins none.
@@ -48,31 +53,36 @@ pub fn begin_session<L: Ledger>(
     }
 }
 
-/// The session that a first frame begins, or why it is rejected.
+/// The channel that a first frame begins, or why it is rejected.
 #[tactic(auto, unfolding(crate::specs::LiveMpds::first_state, crate::specs::LiveMpds::first_appends))]
 pub(crate) fn first_frame<L: Ledger>(
     alloc: Global,
+    form: Form,
     url: &Base,
     digits: Digits,
     frame: &Frame,
     steps: &mut Steps<L>,
-) -> Result<Session, Stop>
+) -> Result<Channel, Stop>
     requires { IsReadable (now_of frame.now) }
     ensures state { let terms : Terms = record { url = url.now; digits = digits } in
-        Gives (λ session. session) refused_in result (spec.first_state terms frame.now) }
+        Gives (λ channel. channel.session) refused_in result (spec.first_state terms frame.now) }
+    ensures players { IfOk result (λ channel. channel.players ≡ spec.frame_players form frame.now) }
     ensures made { let terms : Terms = record { url = url.now; digits = digits } in
         spec.AreMade (spec.first_appends terms frame.now) steps.old steps.new result }
     ensures listed { let terms : Terms = record { url = url.now; digits = digits } in
-        IfOk result (λ session. count_of_all session.common.opened ≡ spec.first_appends terms frame.now) }
-    ensures first { IfOk result (λ session. session.common.accepted ≡ 1) }
+        IfOk result (λ channel. count_of_all channel.session.common.opened ≡ spec.first_appends terms frame.now) }
+    ensures first { IfOk result (λ channel. channel.session.common.accepted ≡ 1) }
 {
     answers_allow_listings();
     match frame {
         Frame::Mpd { now, body } => {
-            let mpd = values_in(alloc, body)?;
+            let (mpd, players) = first_values(alloc, body, form)?;
             let session = begin_session(alloc, url, digits, &mpd, *now, steps);
             drop(mpd);
-            session
+            Ok(Channel {
+                session: session?,
+                players,
+            })
         }
         Frame::Reset { .. } | Frame::Tick { .. } => Err(Stop::Refused(Refusal::NotOpen)),
     }
@@ -117,6 +127,18 @@ fn values_in(alloc: Global, body: &Bytes) -> Result<Mpd, Stop>
 {
     match Vec::from_slice(alloc, body.as_slice()) {
         Ok(bytes) => values_of(alloc, Bytes::from(bytes)),
+        Err(_) => Err(Stop::Memory),
+    }
+}
+
+/// The same, with what the MPD says for players in a form.
+fn first_values(alloc: Global, body: &Bytes, form: Form) -> Result<(Mpd, Option<Hints>), Stop>
+    ensures mpd { Gives (λ read. segments_mpd read.0) refused_in result (values_of body.now) }
+    ensures typed { IfOk result (λ read. IsTyped (Some (segments_mpd read.0))) }
+    ensures players { IfOk result (λ read. read.1 ≡ players_in form Segments body.now) }
+{
+    match Vec::from_slice(alloc, body.as_slice()) {
+        Ok(bytes) => values_for(alloc, Bytes::from(bytes), form),
         Err(_) => Err(Stop::Memory),
     }
 }

@@ -4,6 +4,7 @@ ghost use Rattle.iso_time.specs.Instant.{IsReadable};
 ghost use Rattle.bridge_jobs.specs.Frames.{now_of};
 ghost use Rattle.bridge_live.specs.LiveMpds as spec;
 
+use crate::channel::Channel;
 use crate::live_files::write_live_files;
 use crate::live_frame::{first_frame, next_frame};
 use bridge_io::{Ledger, Name, Source, Steps, Store};
@@ -13,7 +14,7 @@ use bridge_report::Stop;
 use bridge_steps::{Follow, Output, count_of};
 use exact_time::Digits;
 use hls_writer::OutFault;
-use live_session::Session;
+use segment_forms::Form;
 use std::alloc::Global;
 use url_parts::Base;
 
@@ -28,6 +29,8 @@ pub struct LiveMpd {
     pub base: Option<Base>,
     /// The decimals of printed durations.
     pub digits: Digits,
+    /// Whether the playlists are plain or for players.
+    pub form: Form,
 }
 
 impl LiveMpd {
@@ -44,12 +47,12 @@ impl LiveMpd {
 impl Follow for LiveMpd {
     type Frame = Frame;
 
-    type Live = Option<Session>;
+    type Live = Option<Channel>;
 
-    ghost told = { λ mpd. spec.followed_mpd (record { url = mpd.url; digits = mpd.digits })
+    ghost told = { λ mpd. spec.followed_mpd mpd.form (record { url = mpd.url; digits = mpd.digits })
         (record { folder = mpd.out; base = mpd.base }) };
 
-    ghost accepted = { λ mpd live. spec.accepted_of live };
+    ghost accepted = { λ mpd live. spec.accepted_of (spec.session_of live) };
 
     ghost stream = { λ mpd. spec.frame_stream };
 
@@ -68,16 +71,16 @@ impl Follow for LiveMpd {
     fn accept<L: Ledger>(
         &self,
         alloc: Global,
-        live: &mut Option<Session>,
+        live: &mut Option<Channel>,
         frame: &Frame,
         steps: &mut Steps<L>,
     ) -> Result<u64, Stop> {
         match live {
-            Some(session) => next_frame(alloc, session, frame, steps),
+            Some(channel) => next_frame(alloc, &mut channel.session, frame, steps),
             None => {
-                let session = first_frame(alloc, &self.url, self.digits, frame, steps)?;
-                let listed = count_of(session.first());
-                *live = Some(session);
+                let channel = first_frame(alloc, self.form, &self.url, self.digits, frame, steps)?;
+                let listed = count_of(channel.session.first());
+                *live = Some(channel);
                 Ok(listed)
             }
         }
@@ -86,11 +89,14 @@ impl Follow for LiveMpd {
     fn publish<F: Store>(
         &self,
         alloc: Global,
-        live: &Option<Session>,
+        live: &Option<Channel>,
         store: &mut F,
     ) -> Result<(), OutFault> {
         match live {
-            Some(session) => write_live_files(alloc, &self.output(), session, store),
+            Some(channel) => {
+                let output = self.output();
+                write_live_files(alloc, &output, &channel.session, &channel.players, store)
+            }
             None => Ok(()),
         }
     }

@@ -2,7 +2,7 @@
 use Rattle.index_parts.specs.declared.fault.IndexFault.TheVariants as fault
 use Rattle.bridge_report.specs.declared.index_refusal.IndexRefusal.TheVariants as index
 use Rattle.bridge_report.specs.declared.refusal.Refusal.TheVariants as refusal
-use Rattle.std.specs.Prelude.{◌^◌, ℕ, List, Option, option_map, Result}
+use Rattle.std.specs.Prelude.{◌^◌, ℕ, List, Option, option_map, Result, Ok}
 use Rattle.bridge_io.specs.{Answer.{and_then, told_as}, Outside.Files}
 use Rattle.index_parts.specs.{declared.fault.IndexFault.IndexFault, Presented.indexed_of}
 use Rattle.mpd_levels.specs.declared.indexed.IndexRow.{IndexRow}
@@ -13,7 +13,10 @@ use Rattle.bridge_jobs.specs.declared.jobs.IndexJob.{IndexJob}
 use Rattle.bridge_playlists.specs.{declared.place.StorePlace.StorePlace, Places.store_place_of}
 use Rattle.bridge_report.specs.{declared.refusal.Refusal.Refusal, Outcomes.Outcome, Reading.{Named, content_of, of_file}}
 use Rattle.bridge_steps.specs.{Done.done_line, Endings.{outcome_written, placed}, Manifests.checked}
-use Rattle.bridge_steps.specs.Playlists.{OutputPlace, output_of, playlists}
+use Rattle.bridge_steps.specs.{Players.players_in, Playlists.{OutputPlace, output_of, playlists}}
+use Rattle.mpd_hints.specs.declared.starts.Sap.TheVariants.{Subsegments}
+use Rattle.segment_forms.specs.declared.form.Form.{Form}
+use Rattle.track_hints.specs.declared.hints.Hints.{Hints}
 
 -- ---- the values of the MPD
 
@@ -48,21 +51,34 @@ checked_in unit place p = of_file place.file (checked unit p)
 unfoldable pub ready_in : (unit : ℕ) → StorePlace → Files → (bytes : List ℕ) → Result Presented Named
 ready_in unit place files bytes = and_then (presented_in place files bytes) (checked_in unit place)
 
+-- and what the MPD says for players, if that is asked for
+abbrev pub with_players : (players : Option Hints) → Presented → Result (Presented × Option Hints) Named
+with_players players p = Ok (p, players)
+
+unfoldable pub told_in : Form → (unit : ℕ) → StorePlace → Files → (bytes : List ℕ) → Result (Presented × Option Hints) Named
+told_in form unit place files bytes = and_then (ready_in unit place files bytes) (with_players (players_in form Subsegments bytes))
+
 -- the same for the file at the location
-unfoldable pub ready_at : (unit : ℕ) → StorePlace → Files → Result Presented Named
-ready_at unit place files = and_then (content_of place.file files) (ready_in unit place files)
+unfoldable pub told_at : Form → (unit : ℕ) → StorePlace → Files → Result (Presented × Option Hints) Named
+told_at form unit place files = and_then (content_of place.file files) (told_in form unit place files)
 
 -- ---- the command
 
-abbrev pub presented : IndexJob → StorePlace → Files → Result Presented Named
-presented job place files = ready_at (10 ^ job.digits) place files
+abbrev pub presented : IndexJob → StorePlace → Files → Result (Presented × Option Hints) Named
+presented job place files = told_at job.form (10 ^ job.digits) place files
 
 -- where the playlists are written
 abbrev pub output_of_job : IndexJob → OutputPlace
 output_of_job job = output_of job.addresses job.base job.out
 
-abbrev pub outcome_of : IndexJob → Result Presented Named → Outcome
-outcome_of job read = outcome_written (playlists (output_of_job job) job.digits) done_line read
+abbrev pub files_of : OutputPlace → (digits : ℕ) → Presented × Option Hints → List (List ℕ × List ℕ)
+files_of output digits told = playlists output told.1 digits told.0
+
+abbrev pub line_of : Presented × Option Hints → List ℕ
+line_of told = done_line told.0
+
+abbrev pub outcome_of : IndexJob → Result (Presented × Option Hints) Named → Outcome
+outcome_of job read = outcome_written (files_of (output_of_job job) job.digits) line_of read
 
 -- the MPD is at this location
 abbrev pub index_at : IndexJob → Option Files → StorePlace → Option Outcome

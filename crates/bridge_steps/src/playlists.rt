@@ -10,10 +10,11 @@ ghost use Rattle.bridge_steps.specs.Playlists as spec;
 use crate::manifest::Ready;
 use bridge_io::{Ledger, Name, NoMemory, Steps, Store};
 use bridge_jobs::Addresses;
-use hls_writer::{OutFault, write_master, write_media};
+use hls_writer::{OutFault, Targets, write_master, write_media};
 use presentation::Presentation;
 use std::alloc::Global;
 use std::marker::Model;
+use track_hints::Hints;
 use url_parts::{Base, Spelling};
 
 /// Where playlists are written, and how their URLs are spelled.
@@ -102,15 +103,21 @@ pub fn write_playlists<F: Store, L: Ledger>(
     store: &mut F,
     steps: &mut Steps<L>,
 ) -> Result<(), OutFault>
-    ensures ok { OnOk result (Changes (put_all (spec.playlists output.now ready.now.digits ready.now.presentation)) (F.files store.old)
+    ensures ok { OnOk result (Changes (put_all (spec.playlists output.now ready.now.players ready.now.digits ready.now.presentation)) (F.files store.old)
         (F.files store.new)) }
-    ensures err { OnErr result (AreBegun (spec.playlists output.now ready.now.digits ready.now.presentation) (F.files store.old)
+    ensures err { OnErr result (AreBegun (spec.playlists output.now ready.now.players ready.now.digits ready.now.presentation) (F.files store.old)
         (F.files store.new)) }
     ensures cause { HasCause WriteFault (F.write_faults store.old) (F.write_faults store.new) result }
     ensures reads { F.read_faults store.new ≡ F.read_faults store.old }
 {
     write_tracks(alloc, output, ready, store, steps)?;
-    write_the_master(alloc, output.folder(), &ready.presentation, store)
+    write_the_master(
+        alloc,
+        output.folder(),
+        &ready.players,
+        &ready.presentation,
+        store,
+    )
 }
 
 /// Writes the playlist of each track in order.
@@ -121,9 +128,9 @@ fn write_tracks<F: Store, L: Ledger>(
     store: &mut F,
     steps: &mut Steps<L>,
 ) -> Result<(), OutFault>
-    ensures ok { OnOk result (Changes (put_all (spec.track_files output.now ready.now.digits ready.now.presentation)) (F.files store.old)
+    ensures ok { OnOk result (Changes (put_all (spec.track_files output.now ready.now.players ready.now.digits ready.now.presentation)) (F.files store.old)
         (F.files store.new)) }
-    ensures err { OnErr result (AreBegun (spec.track_files output.now ready.now.digits ready.now.presentation) (F.files store.old)
+    ensures err { OnErr result (AreBegun (spec.track_files output.now ready.now.players ready.now.digits ready.now.presentation) (F.files store.old)
         (F.files store.new)) }
     ensures cause { HasCause WriteFault (F.write_faults store.old) (F.write_faults store.new) result }
     ensures reads { F.read_faults store.new ≡ F.read_faults store.old }
@@ -143,9 +150,9 @@ fn write_track<F: Store, L: Ledger>(
     steps: &mut Steps<L>,
 ) -> Result<(), OutFault>
     requires { track < length ready.now.presentation.tracks }
-    ensures ok { OnOk result (let file = spec.track_file output.now ready.now.digits ready.now.presentation track in
+    ensures ok { OnOk result (let file = spec.track_file output.now ready.now.players ready.now.digits ready.now.presentation track in
         Changes (put file.0 file.1) (F.files store.old) (F.files store.new)) }
-    ensures err { OnErr result (MayBegin (spec.track_file output.now ready.now.digits ready.now.presentation track) (F.files store.old)
+    ensures err { OnErr result (MayBegin (spec.track_file output.now ready.now.players ready.now.digits ready.now.presentation track) (F.files store.old)
         (F.files store.new)) }
     ensures cause { HasCause WriteFault (F.write_faults store.old) (F.write_faults store.new) result }
     ensures reads { F.read_faults store.new ≡ F.read_faults store.old }
@@ -158,6 +165,7 @@ fn write_track<F: Store, L: Ledger>(
         &ready.presentation,
         track,
         &ready.longest,
+        Targets::of(ready.players.as_ref()),
         ready.digits,
         &spelling,
         store,
@@ -166,21 +174,23 @@ fn write_track<F: Store, L: Ledger>(
     )
 }
 
-/// Writes the master playlist of a presentation into a folder, as `master.m3u8`.
+/// Writes the master playlist of a presentation into a folder, as `master.m3u8`; for players, where it is given what its MPD
+/// says for them.
 pub fn write_the_master<F: Store>(
     alloc: Global,
     out: &Name,
+    players: &Option<Hints>,
     presentation: &Presentation,
     store: &mut F,
 ) -> Result<(), OutFault>
-    ensures ok { OnOk result (let file = spec.master_file out.now presentation.now in
+    ensures ok { OnOk result (let file = spec.master_file out.now players.now presentation.now in
         Changes (put file.0 file.1) (F.files store.old) (F.files store.new)) }
-    ensures err { OnErr result (MayBegin (spec.master_file out.now presentation.now) (F.files store.old) (F.files store.new)) }
+    ensures err { OnErr result (MayBegin (spec.master_file out.now players.now presentation.now) (F.files store.old) (F.files store.new)) }
     ensures cause { HasCause WriteFault (F.write_faults store.old) (F.write_faults store.new) result }
     ensures reads { F.read_faults store.new ≡ F.read_faults store.old }
 {
     match file_in(alloc, out, "master.m3u8") {
-        Ok(name) => write_master(alloc, presentation, store, &name),
+        Ok(name) => write_master(alloc, presentation, players.as_ref(), store, &name),
         Err(NoMemory) => Err(OutFault::Memory),
     }
 }

@@ -88,5 +88,5 @@ fn present_groups(
             contents,
             left_out,
         },
-    )?)
+    ))
 }

@@ -11,14 +11,24 @@ pub data WrittenAttribute : Type 0 where
   media_type : (group : RenditionGroup) → WrittenAttribute
   -- GROUP-ID
   group_id : (group : RenditionGroup) → WrittenAttribute
-  -- NAME: a language, or that it is undetermined, and a number
-  name : (language : Option (List ℕ)) (number : ℕ) → WrittenAttribute
+  -- NAME: a label or a language, or that it is undetermined, and a number
+  name : (stem : Option (List ℕ)) (number : ℕ) → WrittenAttribute
+  -- NAME: a label alone
+  label : (text : List ℕ) → WrittenAttribute
   -- LANGUAGE
   language : (tag : List ℕ) → WrittenAttribute
   -- DEFAULT
   default : (is : Bool) → WrittenAttribute
-  -- AUTOSELECT=YES
-  autoselect : WrittenAttribute
+  -- AUTOSELECT
+  autoselect : (is : Bool) → WrittenAttribute
+  -- FORCED=YES
+  forced : WrittenAttribute
+  -- CHARACTERISTICS of audio that describes the video
+  describes_video : WrittenAttribute
+  -- CHARACTERISTICS of text that transcribes dialogue and sound
+  transcribes_sound : WrittenAttribute
+  -- CHANNELS
+  channels : (count : ℕ) → WrittenAttribute
   -- URI of a track's playlist
   playlist : (track : ℕ) → WrittenAttribute
   -- BANDWIDTH, in bits per second
@@ -31,6 +41,8 @@ pub data WrittenAttribute : Type 0 where
   frame_rate : (thousandths : ℕ) → WrittenAttribute
   -- AUDIO or SUBTITLES of a variant: its group of renditions
   renditions : (group : RenditionGroup) → WrittenAttribute
+  -- CLOSED-CAPTIONS=NONE
+  no_captions : WrittenAttribute
 
 -- TYPE of a group's renditions, and the attribute by which a variant names the group
 abbrev pub type_name : RenditionGroup → List ℕ
@@ -49,7 +61,7 @@ group_number Subtitles = 0
 abbrev pub group_bytes : RenditionGroup → List ℕ
 group_bytes group = group_letter group ++ decimal (group_number group)
 
--- the language, or that it is undetermined (ISO 639-2)
+-- the label or the language, or that it is undetermined (ISO 639-2)
 abbrev pub tag_or_undetermined : Option (List ℕ) → List ℕ
 tag_or_undetermined tag = option_map_or (λ t. t) tag (codes "und")
 
@@ -76,16 +88,23 @@ quoted text = 34 ∷ text ++ 34 ∷ []
 unfoldable pub attribute_bytes : WrittenAttribute → List ℕ
 attribute_bytes (media_type group) = codes "TYPE=" ++ type_name group
 attribute_bytes (group_id group) = codes "GROUP-ID=" ++ quoted (group_bytes group)
-attribute_bytes (name tag number) = codes "NAME=" ++ quoted (tag_or_undetermined tag ++ 45 ∷ decimal number)
+attribute_bytes (name stem number) = codes "NAME=" ++ quoted (tag_or_undetermined stem ++ 45 ∷ decimal number)
+attribute_bytes (label text) = codes "NAME=" ++ quoted text
 attribute_bytes (language tag) = codes "LANGUAGE=" ++ quoted tag
 attribute_bytes (default is) = codes "DEFAULT=" ++ yes_or_no is
-attribute_bytes autoselect = codes "AUTOSELECT=YES"
+attribute_bytes (autoselect is) = codes "AUTOSELECT=" ++ yes_or_no is
+attribute_bytes forced = codes "FORCED=YES"
+attribute_bytes describes_video = codes "CHARACTERISTICS=" ++ quoted (codes "public.accessibility.describes-video")
+attribute_bytes transcribes_sound = codes "CHARACTERISTICS="
+    ++ quoted (codes "public.accessibility.transcribes-spoken-dialog,public.accessibility.describes-music-and-sound")
+attribute_bytes (channels count) = codes "CHANNELS=" ++ quoted (decimal count)
 attribute_bytes (playlist track) = codes "URI=" ++ quoted (playlist_name track)
 attribute_bytes (bandwidth bits) = codes "BANDWIDTH=" ++ decimal bits
 attribute_bytes (codecs list) = codes "CODECS=" ++ quoted (codes_bytes list)
 attribute_bytes (resolution size) = codes "RESOLUTION=" ++ decimal size.width ++ 120 ∷ decimal size.height
 attribute_bytes (frame_rate thousandths) = codes "FRAME-RATE=" ++ thousandths_bytes thousandths
 attribute_bytes (renditions group) = type_name group ++ codes "=" ++ quoted (group_bytes group)
+attribute_bytes no_captions = codes "CLOSED-CAPTIONS=NONE"
 
 -- attributes joined by `,`
 abbrev pub further_bytes : List WrittenAttribute → List ℕ

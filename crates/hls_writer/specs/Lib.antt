@@ -2,9 +2,11 @@ pub mod AttributeRows
 pub mod Attributes
 pub mod Finished
 pub mod Items
+pub mod LaidOut
 pub mod Laws
 pub mod Lines
 pub mod Master
+pub mod Menus
 pub mod Playlists
 pub mod Renditions
 pub mod Rows

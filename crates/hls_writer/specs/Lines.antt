@@ -9,6 +9,8 @@ pub data WrittenLine : Type 0 where
   header : WrittenLine
   -- EXT-X-VERSION
   version : (number : ℕ) → WrittenLine
+  -- EXT-X-INDEPENDENT-SEGMENTS
+  independent_segments : WrittenLine
   -- EXT-X-TARGETDURATION
   target_duration : (seconds : ℕ) → WrittenLine
   -- EXT-X-MEDIA-SEQUENCE
@@ -52,6 +54,7 @@ seconds_bytes digits units = decimal (units / 10 ^ digits) ++ 46 ∷ padded_digi
 unfoldable pub line_bytes : WrittenLine → List ℕ
 line_bytes header = codes "#EXTM3U"
 line_bytes (version number) = codes "#EXT-X-VERSION:" ++ decimal number
+line_bytes independent_segments = codes "#EXT-X-INDEPENDENT-SEGMENTS"
 line_bytes (target_duration seconds) = codes "#EXT-X-TARGETDURATION:" ++ decimal seconds
 line_bytes (media_sequence number) = codes "#EXT-X-MEDIA-SEQUENCE:" ++ decimal number
 line_bytes (discontinuity_sequence number) = codes "#EXT-X-DISCONTINUITY-SEQUENCE:" ++ decimal number

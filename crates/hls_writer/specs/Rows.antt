@@ -3,14 +3,15 @@ use Rattle.hls_writer.specs.declared.line.Tag.TheVariants as line
 use Rattle.std.specs.Prelude.{⊤, List, map, ◌++◌, Option, option_map, IfSome}
 use Rattle.iso_time.specs.Instant.{IsWritable}
 use Rattle.hls_writer.specs.Lines.{WrittenLine, header, version, target_duration, media_sequence, discontinuity_sequence, on_demand}
-use Rattle.hls_writer.specs.{Lines.{discontinuity, initialization, program_date_time, byte_range, end_list}, Playlists.{Item, present}}
-use Rattle.hls_writer.specs.{Spelled.spelled_part, declared.line.Tag.Tag, declared.entry.Entry.Entry}
+use Rattle.hls_writer.specs.Lines.{independent_segments, discontinuity, initialization, program_date_time, byte_range, end_list}
+use Rattle.hls_writer.specs.{Playlists.{Item, present}, Spelled.spelled_part, declared.line.Tag.Tag, declared.entry.Entry.Entry}
 use Rattle.url_parts.specs.Spelling.{spelled}
 
 -- the value of a line
 abbrev pub written : Tag → WrittenLine
 written line.Header = header
 written (line.Version number) = version number
+written line.IndependentSegments = independent_segments
 written (line.TargetDuration seconds) = target_duration seconds
 written (line.MediaSequence number) = media_sequence number
 written (line.DiscontinuitySequence number) = discontinuity_sequence number

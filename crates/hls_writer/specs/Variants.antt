@@ -4,8 +4,10 @@ use Rattle.std.specs.Prelude.{ℕ, Bool, is_some, ◌+◌, ◌*◌, ◌==◌, ma
 use Rattle.std.specs.{Prelude.{option_map, option_and_then, option_to_list, unwrap_or}, List.{flat_map, list_any, slice_split}}
 use Rattle.std.specs.Option.{option_map_or}
 use Rattle.bridge_io.specs.{declared.media.Ratio.Ratio, declared.media.Size.Size}
-use Rattle.presentation.specs.{declared.track.Track.Track, Groups.same_text}
-use Rattle.hls_writer.specs.Attributes.{WrittenAttribute, bandwidth, codecs, resolution, frame_rate, renditions, playlist_name}
+use Rattle.track_hints.specs.declared.hints.Hints.{Hints}
+use Rattle.presentation.specs.declared.track.Track.{Track}
+use Rattle.audio_groups.specs.Groups.{same_text}
+use Rattle.hls_writer.specs.Attributes.{WrittenAttribute, bandwidth, codecs, resolution, frame_rate, renditions, no_captions, playlist_name}
 use Rattle.hls_writer.specs.{Finished.rounded, Lines.{WrittenLine, variant, uri, lines_text}, Renditions.{places_of, members_in, present}}
 use Rattle.hls_writer.specs.{declared.attribute.RenditionGroup.TheVariants.{Audio, Subtitles}, declared.variants.Variant.Variant}
 use Rattle.text_lists.specs.Lists.{parts_in}
@@ -36,14 +38,23 @@ choices (members ∷ later) = numbers_from [] 0 (members ∷ later)
 abbrev pub video_variants : (videos : List ℕ) → (choices : List (Option ℕ)) → List Variant
 video_variants videos choices = flat_map (λ place. map (video_variant place) choices) videos
 
--- One for each pair of a video track and an audio group, by video track. Without audio there is one for each video track,
--- and without video one for each audio group.
-abbrev pub variants_with : (videos : List ℕ) → (groups : List (List ℕ)) → List Variant
-variants_with [] groups = sound_variants [] 0 groups
-variants_with (video ∷ videos) groups = video_variants (video ∷ videos) (choices groups)
+-- the same by group, or without audio by video track
+abbrev pub group_variants : (videos : List ℕ) → (choices : List (Option ℕ)) → List Variant
+group_variants videos choices = flat_map (λ group. map (λ place. video_variant place group) videos) choices
 
-abbrev pub variants_of : List Track → (groups : List (List ℕ)) → List Variant
-variants_of tracks groups = variants_with (places_of kind.Video tracks) groups
+-- for players by audio group, otherwise by video track
+abbrev pub ordered_variants : Option Hints → (videos : List ℕ) → (choices : List (Option ℕ)) → List Variant
+ordered_variants None videos choices = video_variants videos choices
+ordered_variants (Some hints) videos choices = group_variants videos choices
+
+-- One for each pair of a video track and an audio group. Without audio there is one for each video track, and without video one
+-- for each audio group.
+abbrev pub variants_with : Option Hints → (videos : List ℕ) → (groups : List (List ℕ)) → List Variant
+variants_with players [] groups = sound_variants [] 0 groups
+variants_with players (video ∷ videos) groups = ordered_variants players (video ∷ videos) (choices groups)
+
+abbrev pub variants_of : Option Hints → List Track → (groups : List (List ℕ)) → List Variant
+variants_of players tracks groups = variants_with players (places_of kind.Video tracks) groups
 
 abbrev pub bandwidth_at : List Track → ℕ → ℕ
 bandwidth_at tracks place = option_map_or (λ track. track.bandwidth) (slice_get tracks place) 0
@@ -118,26 +129,35 @@ of_sound group = renditions (Audio group)
 abbrev pub of_rate : Ratio → WrittenAttribute
 of_rate ratio = frame_rate (thousandths_of ratio)
 
-abbrev pub variant_attributes : List Track → (texts : List ℕ) → Option (List (List ℕ)) → Variant → List WrittenAttribute
-variant_attributes tracks texts codes v = present (
+-- CLOSED-CAPTIONS=NONE, for players, where no video may contain any
+abbrev pub of_captions : Option Hints → Option WrittenAttribute
+of_captions None = None
+of_captions (Some hints) = if hints.captions then None else Some no_captions
+
+abbrev pub variant_attributes : Option Hints → List Track → (texts : List ℕ) → Option (List (List ℕ)) → Variant → List WrittenAttribute
+variant_attributes players tracks texts codes v = present (
     option_map codecs codes
     ∷ option_map resolution (option_and_then (size_at tracks) v.video)
     ∷ option_map of_rate (option_and_then (frame_rate_at tracks) v.video)
     ∷ option_map of_sound v.group
     ∷ of_texts texts
+    ∷ of_captions players
     ∷ []
     )
 
 -- EXT-X-STREAM-INF, and the URI line after it
-abbrev pub coded_lines : List Track → (groups : List (List ℕ)) → (texts : List ℕ) → Option (List (List ℕ)) → Variant → List WrittenLine
-coded_lines tracks groups texts codes v =
-    variant (bandwidth (bandwidth_of tracks groups texts v)) (variant_attributes tracks texts codes v) ∷ uri (playlist_name v.track) ∷ []
+abbrev pub coded_lines : Option Hints → List Track → (groups : List (List ℕ)) → (texts : List ℕ) → Option (List (List ℕ)) → Variant
+    → List WrittenLine
+coded_lines players tracks groups texts codes v =
+    variant (bandwidth (bandwidth_of tracks groups texts v)) (variant_attributes players tracks texts codes v)
+    ∷ uri (playlist_name v.track) ∷ []
 
-abbrev pub variant_lines : List Track → (groups : List (List ℕ)) → (texts : List ℕ) → Variant → List WrittenLine
-variant_lines tracks groups texts v = coded_lines tracks groups texts (codes_of tracks (cast_of groups texts v)) v
+abbrev pub variant_lines : Option Hints → List Track → (groups : List (List ℕ)) → (texts : List ℕ) → Variant → List WrittenLine
+variant_lines players tracks groups texts v = coded_lines players tracks groups texts (codes_of tracks (cast_of groups texts v)) v
 
-abbrev pub coded_text : List Track → (groups : List (List ℕ)) → (texts : List ℕ) → Option (List (List ℕ)) → Variant → List ℕ
-coded_text tracks groups texts codes v = lines_text (coded_lines tracks groups texts codes v)
+abbrev pub coded_text : Option Hints → List Track → (groups : List (List ℕ)) → (texts : List ℕ) → Option (List (List ℕ)) → Variant
+    → List ℕ
+coded_text players tracks groups texts codes v = lines_text (coded_lines players tracks groups texts codes v)
 
-abbrev pub variant_text : List Track → (groups : List (List ℕ)) → (texts : List ℕ) → Variant → List ℕ
-variant_text tracks groups texts v = lines_text (variant_lines tracks groups texts v)
+abbrev pub variant_text : Option Hints → List Track → (groups : List (List ℕ)) → (texts : List ℕ) → Variant → List ℕ
+variant_text players tracks groups texts v = lines_text (variant_lines players tracks groups texts v)

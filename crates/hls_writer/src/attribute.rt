@@ -57,17 +57,27 @@ pub enum Attribute<'a> {
     GroupId(RenditionGroup),
     /// NAME (4.3.4.1).
     Name {
-        /// The language, where it is known.
-        language: Option<&'a str>,
+        /// The label or the language, where one is known.
+        stem: Option<&'a str>,
         /// The index among the audio sets or the text tracks.
         number: u64,
     },
+    /// NAME that is a label (4.3.4.1).
+    Label(&'a str),
     /// LANGUAGE (4.3.4.1).
     Language(&'a str),
     /// DEFAULT (4.3.4.1).
     Default(bool),
-    /// AUTOSELECT=YES (4.3.4.1).
-    Autoselect,
+    /// AUTOSELECT (4.3.4.1).
+    Autoselect(bool),
+    /// FORCED=YES (4.3.4.1).
+    Forced,
+    /// CHARACTERISTICS of audio that describes the video (4.3.4.1).
+    DescribesVideo,
+    /// CHARACTERISTICS of text that transcribes dialogue and sound (4.3.4.1).
+    TranscribesSound,
+    /// CHANNELS (4.3.4.1).
+    Channels(u8),
     /// URI of a track's playlist (4.3.4.1).
     Playlist(u64),
     /// BANDWIDTH in bits per second (4.3.4.2).
@@ -80,6 +90,8 @@ pub enum Attribute<'a> {
     FrameRate(u64),
     /// AUDIO or SUBTITLES (4.3.4.2).
     Renditions(RenditionGroup),
+    /// CLOSED-CAPTIONS=NONE (4.3.4.2).
+    NoCaptions,
 }
 
 impl Attribute<'_> {
@@ -92,22 +104,23 @@ impl Attribute<'_> {
                 sheet.push_pieces(&[Piece::Text(b"TYPE="), Piece::Text(group.type_name())])
             }
             Attribute::GroupId(group) => push_group(sheet, b"GROUP-ID", group),
-            Attribute::Name { language, number } => sheet.push_pieces(&[
-                Piece::Text(b"NAME=\""),
-                Piece::Text(tag_or_undetermined(language)),
-                Piece::Text(b"-"),
-                Piece::Number(number),
+            Attribute::Name { stem, number } => push_name(sheet, stem, number),
+            Attribute::Label(label) => push_quoted(sheet, b"NAME", label.as_bytes()),
+            Attribute::Language(tag) => push_quoted(sheet, b"LANGUAGE", tag.as_bytes()),
+            Attribute::Default(is) => push_choice(sheet, b"DEFAULT=", is),
+            Attribute::Autoselect(is) => push_choice(sheet, b"AUTOSELECT=", is),
+            Attribute::Forced => push_text(sheet, b"FORCED=YES"),
+            Attribute::DescribesVideo => push_quoted(sheet, b"CHARACTERISTICS", DESCRIBES_VIDEO),
+            Attribute::TranscribesSound => push_quoted(
+                sheet,
+                b"CHARACTERISTICS",
+                TRANSCRIBES_SOUND,
+            ),
+            Attribute::Channels(count) => sheet.push_pieces(&[
+                Piece::Text(b"CHANNELS=\""),
+                Piece::Number(u64::from(count)),
                 Piece::Text(b"\""),
             ]),
-            Attribute::Language(tag) => sheet.push_pieces(&[
-                Piece::Text(b"LANGUAGE=\""),
-                Piece::Text(tag.as_bytes()),
-                Piece::Text(b"\""),
-            ]),
-            Attribute::Default(is) => {
-                sheet.push_pieces(&[Piece::Text(b"DEFAULT="), Piece::Text(yes_or_no(is))])
-            }
-            Attribute::Autoselect => sheet.push_pieces(&[Piece::Text(b"AUTOSELECT=YES")]),
             Attribute::Playlist(track) => sheet.push_pieces(&[
                 Piece::Text(b"URI=\"t"),
                 Piece::Number(track),
@@ -117,21 +130,86 @@ impl Attribute<'_> {
                 sheet.push_pieces(&[Piece::Text(b"BANDWIDTH="), Piece::Wide(bits)])
             }
             Attribute::Codecs(codes) => push_codes(sheet, codes),
-            Attribute::Resolution(size) => sheet.push_pieces(&[
-                Piece::Text(b"RESOLUTION="),
-                Piece::Number(u64::from(size.width)),
-                Piece::Text(b"x"),
-                Piece::Number(u64::from(size.height)),
-            ]),
-            Attribute::FrameRate(thousandths) => sheet.push_pieces(&[
-                Piece::Text(b"FRAME-RATE="),
-                Piece::Number(thousandths / 1000),
-                Piece::Text(b"."),
-                Piece::Text(&three_decimals(thousandths)),
-            ]),
+            Attribute::Resolution(size) => push_size(sheet, size),
+            Attribute::FrameRate(thousandths) => push_rate(sheet, thousandths),
             Attribute::Renditions(group) => push_group(sheet, group.type_name(), group),
+            Attribute::NoCaptions => push_text(sheet, b"CLOSED-CAPTIONS=NONE"),
         }
     }
+}
+
+/// What audio for those who can't see the video does (RFC 8216, 4.3.4.1, CHARACTERISTICS).
+const DESCRIBES_VIDEO: &[u8] = b"public.accessibility.describes-video";
+
+/// What text for those who can't hear the audio does (RFC 8216, 4.3.4.1, CHARACTERISTICS).
+const TRANSCRIBES_SOUND: &[u8] =
+    b"public.accessibility.transcribes-spoken-dialog,public.accessibility.describes-music-and-sound";
+
+fn push_text<F: Store>(sheet: &mut Sheet<F>, text: &[u8]) -> Result<(), Fail>
+    ensures { Adds F.Store text.now sheet.old sheet.new result }
+{
+    sheet.push_pieces(&[Piece::Text(text)])
+}
+
+/// Writes an attribute with a quoted text.
+fn push_quoted<'a, F: Store>(
+    sheet: &mut Sheet<F>,
+    name: &'a [u8],
+    text: &'a [u8],
+) -> Result<(), Fail>
+    ensures { Adds F.Store (name.now ++ 61 ∷ spec.quoted text.now) sheet.old sheet.new result }
+{
+    sheet.push_pieces(&[
+        Piece::Text(name),
+        Piece::Text(b"=\""),
+        Piece::Text(text),
+        Piece::Text(b"\""),
+    ])
+}
+
+/// Writes an attribute that is YES or NO.
+fn push_choice<F: Store>(sheet: &mut Sheet<F>, name: &[u8], is: bool) -> Result<(), Fail>
+    ensures { Adds F.Store (name.now ++ spec.yes_or_no is) sheet.old sheet.new result }
+{
+    sheet.push_pieces(&[Piece::Text(name), Piece::Text(yes_or_no(is))])
+}
+
+/// Writes NAME that is made of a label or a language and a number.
+#[tactic(auto, unfolding(crate::specs::Attributes::attribute_bytes))]
+fn push_name<F: Store>(sheet: &mut Sheet<F>, stem: Option<&str>, number: u64) -> Result<(), Fail>
+    ensures { Adds F.Store (attribute_bytes (spec.name (option_map (λ stem. stem.now) stem.entry) number)) sheet.old sheet.new result }
+{
+    sheet.push_pieces(&[
+        Piece::Text(b"NAME=\""),
+        Piece::Text(tag_or_undetermined(stem)),
+        Piece::Text(b"-"),
+        Piece::Number(number),
+        Piece::Text(b"\""),
+    ])
+}
+
+#[tactic(auto, unfolding(crate::specs::Attributes::attribute_bytes))]
+fn push_size<F: Store>(sheet: &mut Sheet<F>, size: Size) -> Result<(), Fail>
+    ensures { Adds F.Store (attribute_bytes (spec.resolution size)) sheet.old sheet.new result }
+{
+    sheet.push_pieces(&[
+        Piece::Text(b"RESOLUTION="),
+        Piece::Number(u64::from(size.width)),
+        Piece::Text(b"x"),
+        Piece::Number(u64::from(size.height)),
+    ])
+}
+
+#[tactic(auto, unfolding(crate::specs::Attributes::attribute_bytes))]
+fn push_rate<F: Store>(sheet: &mut Sheet<F>, thousandths: u64) -> Result<(), Fail>
+    ensures { Adds F.Store (attribute_bytes (spec.frame_rate thousandths)) sheet.old sheet.new result }
+{
+    sheet.push_pieces(&[
+        Piece::Text(b"FRAME-RATE="),
+        Piece::Number(thousandths / 1000),
+        Piece::Text(b"."),
+        Piece::Text(&three_decimals(thousandths)),
+    ])
 }
 
 /// Writes an attribute that names a group.
@@ -151,10 +229,10 @@ fn push_group<F: Store>(
     ])
 }
 
-fn tag_or_undetermined(language: Option<&str>) -> &[u8]
-    ensures { result.now ≡ spec.tag_or_undetermined (option_map (λ tag. tag.now) language.entry) }
+fn tag_or_undetermined(stem: Option<&str>) -> &[u8]
+    ensures { result.now ≡ spec.tag_or_undetermined (option_map (λ tag. tag.now) stem.entry) }
 {
-    match language {
+    match stem {
         Some(tag) => tag.as_bytes(),
         None => b"und",
     }

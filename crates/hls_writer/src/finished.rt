@@ -1,9 +1,12 @@
 // The media playlists of a VOD presentation.
-ghost use Rattle.std.specs.Prelude.{◌≡◌, ◌⊎◌, ◌^◌, ◌<◌, ◌≤◌, ◌/◌, length, All, IfOk, IfSome, None, Ok, OnOk, OnErr, MatchResult};
+ghost use Rattle.std.specs.Prelude.{◌≡◌, ◌⊎◌, ◌^◌, ◌<◌, ◌≤◌, ◌/◌, length, All, IfOk, IfSome, None, Ok, option_map, OnOk, OnErr};
+ghost use Rattle.std.specs.Prelude.{MatchResult};
 ghost use Rattle.bridge_io.specs.Fault.{HasCause};
 ghost use Rattle.bridge_io.specs.Outside.{put, Changes};
 ghost use Rattle.bridge_io.specs.Written.{HasFront};
+ghost use Rattle.bridge_io.specs.declared.media.Kind.TheVariants.{Text};
 ghost use Rattle.bridge_io.specs.declared.outside.Fail.TheVariants.{Memory};
+ghost use Rattle.presentation.specs.Order.{is_of};
 ghost use Rattle.presentation.specs.Laws.{HasAddress};
 ghost use Rattle.presentation.specs.Verifying.{verified};
 ghost use Rattle.hls_writer.specs.Verified.{IsVerified};
@@ -20,17 +23,39 @@ ghost use Rattle.bridge_io.specs.declared.out_fault.OutFault.TheVariants.{WriteF
 use crate::OutFault;
 use crate::entry::Entry;
 use crate::line::{Tag, push_lines};
-use bridge_io::{Fail, FileWriter, Ledger, Name, Sheet, Steps, Store};
+use bridge_io::{Fail, FileWriter, Kind, Ledger, Name, Sheet, Steps, Store};
 use exact_time::Digits;
-use presentation::{Longest, Presentation, PrintedSegments};
+use presentation::{Longest, Presentation, PrintedSegments, Track};
 use std::alloc::Global;
 use timeline::{AddressWriter, ListFault, Span};
+use track_hints::Hints;
 use url_parts::{Part, Range, Spelling};
+
+/// What the target durations (RFC 8216, 4.3.3.1) of the playlists of a VOD presentation are.
+#[derive(Clone, Copy)]
+pub enum Targets {
+    /// Each playlist has its own.
+    Own,
+    /// Those of the video and audio tracks have the greatest of theirs (6.2.4); a text track has its own.
+    Shared,
+}
+
+impl Targets {
+    /// Shared in the form for players.
+    pub fn of(players: Option<&Hints>) -> Targets
+        ensures { result ≡ spec.targets_of (option_map (λ h. h.now) players.entry) }
+    {
+        match players {
+            None => Targets::Own,
+            Some(_) => Targets::Shared,
+        }
+    }
+}
 
 /// Writes the media playlist of a track of a VOD presentation: each listed segment with its URL and its printed duration, an
 /// EXT-X-DISCONTINUITY for each step by which the section number rises, and an EXT-X-MAP for the first segment and for the
 /// first one of each section. The target duration is the longest printed duration, rounded to the nearest second, halves up,
-/// and at least 1. URLs are spelled so.
+/// and at least 1, or where targets are shared, the greatest one of the video and audio tracks. URLs are spelled so.
 ///
 /// Requires that the track is in range, and that `verify` returned `longest` for this presentation and these digits.
 ///
@@ -41,6 +66,7 @@ pub fn write_media<'a, F: Store, L: Ledger>(
     presentation: &'a Presentation,
     track: usize,
     longest: &Longest,
+    targets: Targets,
     digits: Digits,
     spelling: &'a Spelling,
     store: &mut F,
@@ -49,14 +75,19 @@ pub fn write_media<'a, F: Store, L: Ledger>(
 ) -> Result<(), OutFault>
     requires track { track < length presentation.now.tracks }
     requires verified { verified presentation.now (10 ^ digits) ≡ Ok longest.now }
-    ensures ok { let text = spec.media_text spelling.now presentation.now digits track in
+    ensures ok { let text = spec.media_text spelling.now targets presentation.now digits track in
         OnOk result (Changes (put name.now text) (F.files store.old) (F.files store.new)) }
-    ensures err { let text = spec.media_text spelling.now presentation.now digits track in
+    ensures err { let text = spec.media_text spelling.now targets presentation.now digits track in
         OnErr result ((F.files store.new ≡ F.files store.old) ⊎ HasFront name.now text (F.files store.old) (F.files store.new)) }
     ensures cause { HasCause WriteFault (F.write_faults store.old) (F.write_faults store.new) result }
     ensures reads { F.read_faults store.new ≡ F.read_faults store.old }
 {
-    let target = target_of(longest.of(track), digits);
+    let durations = Durations {
+        presentation,
+        longest,
+        digits,
+    };
+    let target = durations.target(targets, track);
     let track = WrittenTrack {
         presentation,
         track,
@@ -232,6 +263,82 @@ fn target_of(units: u64, digits: Digits) -> u64
     ensures { result ≡ spec.target_of (10 ^ digits) units }
 {
     rounded(units, u64::from(digits.unit())).max(1)
+}
+
+/// The longest printed durations of a presentation's tracks.
+#[derive(Clone, Copy)]
+struct Durations<'a> {
+    presentation: &'a Presentation,
+    longest: &'a Longest,
+    digits: Digits,
+    ghost told: { verified presentation.now (10 ^ digits) ≡ Ok longest.now },
+}
+
+impl Durations<'_> {
+    /// The target of a track.
+    fn target(&self, targets: Targets, track: usize) -> u64
+        requires { track < length self.now.presentation.now.tracks }
+        ensures { result ≡ spec.target_in targets self.now.presentation.now (10 ^ self.now.digits) track }
+    {
+        match targets {
+            Targets::Own => self.own_target(track),
+            Targets::Shared => self.shared_target_of(track),
+        }
+    }
+
+    fn shared_target_of(&self, track: usize) -> u64
+        requires { track < length self.now.presentation.now.tracks }
+        ensures { result ≡ spec.shared_target_of self.now.presentation.now (10 ^ self.now.digits) track }
+    {
+        if is_text(self.presentation.tracks().as_slice(), track) {
+            return self.own_target(track);
+        }
+        self.shared_target()
+    }
+
+    fn own_target(&self, track: usize) -> u64
+        requires { track < length self.now.presentation.now.tracks }
+        ensures { result ≡ spec.own_target self.now.presentation.now (10 ^ self.now.digits) track }
+    {
+        target_of(self.longest.of(track), self.digits)
+    }
+
+    /// The greatest target of the video and audio tracks.
+    fn shared_target(&self) -> u64
+        ensures { result ≡ spec.shared_target self.now.presentation.now (10 ^ self.now.digits) }
+    {
+        let tracks = self.presentation.tracks().as_slice();
+        let mut most = 0;
+        for (place, track) in tracks.iter().enumerate() {
+            most = self.with_target(most, place, track);
+        }
+        most
+    }
+
+    fn with_target(&self, most: u64, place: usize, track: &Track) -> u64
+        requires { place < length self.now.presentation.now.tracks }
+        ensures { result ≡ spec.with_target (spec.own_target self.now.presentation.now (10 ^ self.now.digits)) most place track.now }
+    {
+        if is_text_kind(track.kind) {
+            return most;
+        }
+        most.max(self.own_target(place))
+    }
+}
+
+fn is_text_kind(kind: Kind) -> bool
+    ensures { result ≡ is_of Text kind }
+{
+    matches!(kind, Kind::Text)
+}
+
+fn is_text(tracks: &[Track], track: usize) -> bool
+    ensures { result ≡ spec.is_text tracks.now track }
+{
+    match tracks.get(track) {
+        Some(track) => is_text_kind(track.kind),
+        None => false,
+    }
 }
 
 /// Writes the lines of the remaining segments of a section, after a segment of the section `former` or as the playlist's

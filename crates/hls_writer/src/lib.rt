@@ -5,14 +5,14 @@ mod attribute;
 mod entry;
 mod finished;
 mod items;
-mod keys;
 pub mod laws;
 mod line;
 mod master;
+mod menus;
 mod renditions;
 mod variants;
 
 pub use bridge_io::OutFault;
-pub use finished::write_media;
+pub use finished::{Targets, write_media};
 pub use items::{ItemList, MediaHead, MediaItem, write_item_slices, write_items};
 pub use master::write_master;

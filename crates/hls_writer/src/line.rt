@@ -17,6 +17,8 @@ pub enum Tag<'a> {
     Header,
     /// EXT-X-VERSION (4.3.1.2).
     Version(u64),
+    /// EXT-X-INDEPENDENT-SEGMENTS (4.3.5.1).
+    IndependentSegments,
     /// EXT-X-TARGETDURATION (4.3.3.1), in seconds.
     TargetDuration(u64),
     /// EXT-X-MEDIA-SEQUENCE (4.3.3.2).
@@ -52,6 +54,9 @@ impl Tag<'_> {
         match *self {
             Tag::Header => sheet.push_pieces(&[Piece::Text(b"#EXTM3U\n")]),
             Tag::Version(number) => push_numbered(sheet, b"#EXT-X-VERSION:", number),
+            Tag::IndependentSegments => {
+                sheet.push_pieces(&[Piece::Text(b"#EXT-X-INDEPENDENT-SEGMENTS\n")])
+            }
             Tag::TargetDuration(seconds) => push_numbered(
                 sheet,
                 b"#EXT-X-TARGETDURATION:",

@@ -8,10 +8,14 @@ ghost use Rattle.hls_writer.specs.Variants as spec;
 use crate::attribute::{Attribute, RenditionGroup};
 use crate::finished::rounded;
 use crate::renditions::{members_in, places_of};
-use bridge_io::{Kind, NoMemory, Ratio, Size};
-use presentation::{Group, Track};
+use bridge_io::{Kind, NoMemory, Ratio, Sequence, Size};
+use presentation::Track;
 use std::alloc::Global;
 use text_lists::TextLists;
+use track_hints::Hints;
+
+/// The tracks of an audio group, in the order of their sets.
+pub(crate) type Members = Sequence<usize>;
 
 /// A video track with an audio group, or only one of the two (RFC 8216, 4.3.4.2).
 #[derive(Clone, Copy)]
@@ -24,20 +28,62 @@ pub(crate) struct Variant {
     pub(crate) track: usize,
 }
 
-/// One variant for each pair of a video track and an audio group, by video track. Without audio there is one for each video
-/// track, and without video one for each audio group.
+/// One variant for each pair of a video track and an audio group, by video track, and for players by group. Without audio there is
+/// one for each video track, and without video one for each audio group.
 pub(crate) fn variants_of(
     alloc: Global,
+    players: Option<&Hints>,
     tracks: &[Track],
-    groups: &[Group],
+    groups: &[Members],
 ) -> Result<Vec<Variant>, NoMemory>
-    ensures { IfOk result (λ found. found.items ≡ spec.variants_of tracks.now groups.now) }
+    ensures { IfOk result (λ found. found.items ≡ spec.variants_of (option_map (λ h. h.now) players.entry) tracks.now groups.now) }
 {
     let videos = places_of(alloc, Kind::Video, tracks)?;
     if videos.is_empty() {
         return sound_variants(alloc, groups);
     }
-    video_variants(alloc, &videos, &choices(alloc, groups)?)
+    ordered_variants(alloc, players, &videos, &choices(alloc, groups)?)
+}
+
+fn ordered_variants(
+    alloc: Global,
+    players: Option<&Hints>,
+    videos: &[usize],
+    choices: &[Option<usize>],
+) -> Result<Vec<Variant>, NoMemory>
+    ensures { IfOk result (λ found. found.items ≡ spec.ordered_variants (option_map (λ h. h.now) players.entry) videos.now choices.now) }
+{
+    match players {
+        None => video_variants(alloc, videos, choices),
+        Some(_) => group_variants(alloc, videos, choices),
+    }
+}
+
+fn group_variants(
+    alloc: Global,
+    videos: &[usize],
+    choices: &[Option<usize>],
+) -> Result<Vec<Variant>, NoMemory>
+    ensures { IfOk result (λ found. found.items ≡ spec.group_variants videos.now choices.now) }
+{
+    let mut found = Vec::new(alloc);
+    for group in choices {
+        add_group(&mut found, videos, *group)?;
+    }
+    Ok(found)
+}
+
+fn add_group(
+    found: &mut Vec<Variant>,
+    videos: &[usize],
+    group: Option<usize>,
+) -> Result<(), NoMemory>
+    ensures { OnOk result (found.new.items ≡ found.old.items ++ map (λ place. spec.video_variant place group) videos.now) }
+{
+    for place in videos {
+        found.push(video_variant(*place, group))?;
+    }
+    Ok(())
 }
 
 fn video_variants(
@@ -78,7 +124,7 @@ fn video_variant(place: usize, group: Option<usize>) -> Variant
 }
 
 /// Each group, or `None` where there are none.
-fn choices(alloc: Global, groups: &[Group]) -> Result<Vec<Option<usize>>, NoMemory>
+fn choices(alloc: Global, groups: &[Members]) -> Result<Vec<Option<usize>>, NoMemory>
     ensures { IfOk result (λ found. found.items ≡ spec.choices groups.now) }
 {
     let mut found = Vec::new(alloc);
@@ -92,7 +138,7 @@ fn choices(alloc: Global, groups: &[Group]) -> Result<Vec<Option<usize>>, NoMemo
     Ok(found)
 }
 
-fn sound_variants(alloc: Global, groups: &[Group]) -> Result<Vec<Variant>, NoMemory>
+fn sound_variants(alloc: Global, groups: &[Members]) -> Result<Vec<Variant>, NoMemory>
     ensures { IfOk result (λ found. found.items ≡ spec.sound_variants [] 0 groups.now) }
 {
     let mut found = Vec::new(alloc);
@@ -113,11 +159,13 @@ fn sound_variant(group: usize, members: &[usize]) -> Variant
     }
 }
 
-/// The data for the lines of variants: the tracks, the audio groups, the indices of the text tracks and the codecs by track.
+/// The data for the lines of variants: what is told for players, the tracks, the audio groups, the indices of the text tracks and
+/// the codecs by track.
 #[derive(Clone, Copy)]
 pub(crate) struct Cast<'a, 'b> {
+    pub(crate) players: Option<&'a Hints>,
     pub(crate) tracks: &'a [Track],
-    pub(crate) groups: &'a [Group],
+    pub(crate) groups: &'a [Members],
     pub(crate) texts: &'a [usize],
     pub(crate) codes: &'b TextLists<'a>,
     ghost told: { codes.now ≡ spec.code_lists tracks.now },
@@ -183,9 +231,9 @@ impl<'a> Cast<'a, '_> {
         &self,
         variant: Variant,
         codes: Option<&'c [&'c str]>,
-    ) -> [Option<Attribute<'c>>; 5]
-        ensures { all_told result ≡ spec.variant_attributes self.now.tracks.now self.now.texts.now
-            (option_map texts_in codes.entry) variant }
+    ) -> [Option<Attribute<'c>>; 6]
+        ensures { all_told result ≡ spec.variant_attributes (option_map (λ h. h.now) self.now.players) self.now.tracks.now
+            self.now.texts.now (option_map texts_in codes.entry) variant }
     {
         [
             codecs_attribute(codes),
@@ -193,6 +241,7 @@ impl<'a> Cast<'a, '_> {
             rate_attribute(self.tracks, variant.video),
             sound_attribute(variant.group),
             texts_attribute(self.texts),
+            captions_attribute(self.players),
         ]
     }
 }
@@ -296,4 +345,14 @@ fn texts_attribute<'b>(texts: &[usize]) -> Option<Attribute<'b>>
         return None;
     }
     Some(Attribute::Renditions(RenditionGroup::Subtitles))
+}
+
+/// CLOSED-CAPTIONS=NONE, for players, where no video may contain any.
+fn captions_attribute<'b>(players: Option<&Hints>) -> Option<Attribute<'b>>
+    ensures { option_map told result ≡ spec.of_captions (option_map (λ h. h.now) players.entry) }
+{
+    if players?.captions {
+        return None;
+    }
+    Some(Attribute::NoCaptions)
 }

@@ -58,13 +58,13 @@ pub fn index_parts<F: Store>(
     let setting = Setting { url: base, folder };
     match mpd.periods().next() {
         Some(period) => setting.present(alloc, &period, mpd.left_out(), store),
-        None => Ok(nothing(alloc, mpd.left_out())?),
+        None => Ok(nothing(alloc, mpd.left_out())),
     }
 }
 
 /// A presentation without tracks.
-fn nothing(alloc: Global, left_out: u64) -> Result<Presentation, NoMemory>
-    ensures { IfOk result (λ presentation. presentation ≡ spec.nothing left_out) }
+fn nothing(alloc: Global, left_out: u64) -> Presentation
+    ensures { result ≡ spec.nothing left_out }
 {
     Presentation::from_parts(
         alloc,
@@ -232,7 +232,7 @@ impl Gathering {
             contents: self.contents,
             left_out,
         };
-        Ok(Presentation::from_parts(alloc, parts)?)
+        Ok(Presentation::from_parts(alloc, parts))
     }
 }
 

@@ -10,7 +10,9 @@ use Rattle.bridge_jobs.specs.declared.frame.Frame.{Frame}
 use Rattle.bridge_courses.specs.{Courses.{Course, Makes, Reaches, Step, World, last_step}, Executions.{FailsTelling, Finishes, Works}}
 use Rattle.bridge_courses.specs.{declared.ending.Ending.Ending, declared.status.Verdict.Verdict}
 use Rattle.bridge_report.specs.Following.{Followed, verdict_by}
-use Rattle.live_meaning.specs.{States.State, Updates.Terms}
+use Rattle.live_meaning.specs.Updates.{Terms}
+use Rattle.bridge_live.specs.declared.channel.Channel.{Channel}
+use Rattle.segment_forms.specs.declared.form.Form.{Form}
 use Rattle.bridge_steps.specs.Follow.{follow_course}
 use Rattle.bridge_live.specs.LiveMpds.{followed_mpd, frame_stream}
 use Rattle.laws_of_jobs.specs.Counts.{FollowCountsSegments, MadeBeyond, MadeBy, MadeOf, MadeWanting, appended_to, refused_to}
@@ -20,10 +22,10 @@ use Rattle.bridge_core.specs.Follow.{output_of_job, terms_at}
 use Rattle.laws_of_jobs.proofs.{Courses.{course_is, line_at_end}, Steps.{as_many_steps, it_counts, its_verdict, least_is, most_is}}
 use Rattle.laws_of_jobs.proofs.Steps.{sum_next}
 
-module _ (terms : Terms) (output : OutputPlace) (input : List ℕ) (course : Course)
-    (at : course ≡ follow_course (followed_mpd terms output) frame_stream None input) where
-  abbrev f : Followed (Option State) Frame
-  f = followed_mpd terms output
+module _ (form : Form) (terms : Terms) (output : OutputPlace) (input : List ℕ) (course : Course)
+    (at : course ≡ follow_course (followed_mpd form terms output) frame_stream None input) where
+  abbrev f : Followed (Option Channel) Frame
+  f = followed_mpd form terms output
 
   least : (n : ℕ) → sum_by (λ step. step.least) (take n course.steps) ≡ appended_to f n input
   least n =
@@ -119,4 +121,4 @@ counts_segments words job place input course end before after is run =
     let at = course_is words job place input course is in
     let same : after.made ≡ run.mid.made = ap (λ world. world.made) run.tells.same in
     subst (MadeBy (followed_at job place) input course run.how before run.mid run.works) (sym same)
-    (made_by (terms_at job place) (output_of_job job) input course at.is run.how before run.mid run.works)
+    (made_by job.form (terms_at job place) (output_of_job job) input course at.is run.how before run.mid run.works)

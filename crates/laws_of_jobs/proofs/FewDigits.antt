@@ -6,7 +6,7 @@ use Rattle.std.specs.Prelude.{codes}
 use Rattle.clap.specs.Words.{Row, first_of}
 use Rattle.bridge_jobs.specs.declared.{jobs.Job.Job, jobs.FollowJob.FollowJob, verb.Verb.Verb}
 use Rattle.bridge_jobs.specs.Jobs.{◌>>=◌, agree_of, base_of, check_of, digits_of, file_of, first_verb, follow_of, hls_of, index_of, job_by}
-use Rattle.bridge_jobs.specs.{Jobs.{addresses_of, compare_of, job_of, make_of, master_of, out_of, reload_of, show_of}, Verbs.values_of}
+use Rattle.bridge_jobs.specs.{Jobs.{addresses_of, compare_of, form_of, job_of, make_of, master_of, out_of, reload_of, show_of}, Verbs.values_of}
 use Rattle.bridge_core.proofs.Asked.{few_or_six}
 
 abbrev HasFew : Job → Type 0
@@ -30,8 +30,8 @@ follow_few : (rows : List Row) → IfSome (follow_of rows) (λ j. j.digits ≤ 9
 unfolding follow_of digits_of
 follow_few rows =
     each _ (file_of (codes "name") rows) _ (λ _ _. each _ (base_of rows) _ (λ _ _. each _ (out_of rows) _
-    (λ _ _. each _ (digits_of rows) _ (λ digits few. each _ (addresses_of rows) _
-    (λ _ _. few_or_six (first_of (codes "digits") rows) digits few)))))
+    (λ _ _. each _ (digits_of rows) _ (λ digits few. each _ (addresses_of rows) _ (λ _ _. each _ (form_of rows) _
+    (λ _ _. few_or_six (first_of (codes "digits") rows) digits few))))))
 
 few_by : (v : Verb) (rows : List Row) → IfSome (job_by v rows) HasFew
 few_by verb.Hls rows = free job.Hls (hls_of rows) (λ _. tt)

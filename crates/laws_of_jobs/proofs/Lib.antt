@@ -1,4 +1,5 @@
 pub mod Bodies
+mod Channels
 mod Counted
 mod Courses
 mod Ends

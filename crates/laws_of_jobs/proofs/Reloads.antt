@@ -15,30 +15,36 @@ use Rattle.live_meaning.specs.Laws.{AcceptedAreAccepted, HistoriesBegin, Histori
 use Rattle.laws_of_reloads.specs.{First.HoldState, Laws.{AreRead, FollowedTextsReload}}
 use Rattle.bridge_report.specs.{Refusals.refusal_text, declared.refusal.Refusal.Refusal}
 use Rattle.bridge_playlists.specs.declared.place.StorePlace.{StorePlace}
-use Rattle.bridge_live.specs.LiveMpds.{next_state}
+use Rattle.bridge_live.specs.{LiveMpds.{next_state, session_of}, declared.channel.Channel.Channel}
+use Rattle.track_hints.specs.declared.hints.Hints.{Hints}
 use Rattle.bridge_steps.specs.Playlists.{output_of, spelling_in}
 use Rattle.bridge_core.{proofs.FileNames.spells_in, specs.Follow.{output_of_job, terms_at}}
-use Rattle.laws_of_jobs.specs.Histories.{frames_in, history_to, state_to, updates_to}
+use Rattle.laws_of_jobs.specs.Histories.{frames_in, history_to, said_to, state_to, updates_to}
 use Rattle.laws_of_jobs.specs.Files.{FollowedFilesAreOfTheHistory, FollowedFilesReload, HoldsHistory, IsReadFrom, prefix_of}
 use Rattle.laws_of_jobs.proofs.{Courses.{course_is, line_at_end}, FewDigits.few_digits, FewFrames.few_frames}
-use Rattle.laws_of_jobs.proofs.FollowedFiles.{HoldsIfAny, IsBehind, frames_behind}
+use Rattle.laws_of_jobs.proofs.FollowedFiles.{HoldsIfAny, IsBehind, Says, frames_behind}
 use Rattle.laws_of_jobs.proofs.{FrameStates.{IsLeft, accepting, next_is, state_goes_on}, Readings.{are_read, no_more, one_more}}
 
 -- ---- the files of the history
 
 module _ (job : FollowJob) (place : StorePlace) (files : Files) where
-  held_by : (history : List Update) (state : Option State) → IsLeft (terms_at job place) history state
-      → HoldsIfAny (output_of_job job) state files
+  held_by : (said : Option Hints) (history : List Update) (channel : Option Channel)
+      → IsLeft (terms_at job place) history (session_of channel) → Says channel said
+      → HoldsIfAny (output_of_job job) channel files
       → (history ≡ []) ⊎ ((s : State) × (state_of (terms_at job place) history ≡ Some s)
-      × HoldState files (prefix_of job) (spelling_in (output_of_job job)) s)
-  held_by history None left holds = inl left
-  held_by history (Some s) left holds = inr (s, left.leaves, holds.1)
+      × HoldState files (prefix_of job) (spelling_in (output_of_job job)) said s)
+  held_by said history None left says holds = inl left
+  held_by said history (Some c) left says holds = inr (
+    c.session,
+    left.leaves,
+    subst (λ players. HoldState files (prefix_of job) (spelling_in (output_of_job job)) players c.session) says holds.1,
+  )
 
   held_at : (n : ℕ) (input : List ℕ) (s : State) → HoldsHistory job place n input files → state_to (terms_at job place) n input ≡ Some s
-      → HoldState files (prefix_of job) (spelling_in (output_of_job job)) s
+      → HoldState files (prefix_of job) (spelling_in (output_of_job job)) (said_to job place n input) s
   unfolding state_of
   held_at n input s (inl none) is = absurd (none-some s (ap (state_of (terms_at job place)) (sym none) ∙ is))
-  held_at n input s (inr some) is = subst (HoldState files (prefix_of job) (spelling_in (output_of_job job)))
+  held_at n input s (inr some) is = subst (HoldState files (prefix_of job) (spelling_in (output_of_job job)) (said_to job place n input))
       (same_Some _ _ (sym some.1 ∙ is)) some.2
 
 -- what is written for a URL stands for it where the playlist can be read from
@@ -68,11 +74,13 @@ module _ (begins : HistoriesBegin) (goes_on : HistoriesGoOn) (refuse : Histories
       let terms : Terms = terms_at job place in
       let at = course_is words job place input course is in
       let same : put_all (files_to n course) first ≡ last = sym (same_Some _ _ changes) in
-      let behind : IsBehind terms (output_of_job job) (history_to terms n input) last =
-      subst (IsBehind terms (output_of_job job) (history_to terms n input)) (ap (λ c. put_all (files_to n c) first) (sym at.is) ∙ same)
-      (frames_behind begins goes_on refuse few terms (output_of_job job) (frames_in input) n None 0 0 (line_at_end input)
+      let said : Option Hints = said_to job place n input in
+      let behind : IsBehind terms (output_of_job job) said (history_to terms n input) last =
+      subst (IsBehind terms (output_of_job job) said (history_to terms n input))
+      (ap (λ c. put_all (files_to n c) first) (sym at.is) ∙ same)
+      (frames_behind begins goes_on refuse few job.form terms (output_of_job job) (frames_in input) n None 0 0 (line_at_end input)
       [] first refl tt) in
-      held_by job place last (history_to terms n input) behind.state behind.left behind.holds
+      held_by job place last said (history_to terms n input) behind.channel behind.left behind.says behind.holds
 
   -- ---- reloads
 

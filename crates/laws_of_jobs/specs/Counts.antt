@@ -9,7 +9,7 @@ use Rattle.bridge_courses.specs.{Courses.{Course, World}, Executions.{IsExecutio
 use Rattle.bridge_courses.specs.declared.status.Status.{Status}
 use Rattle.bridge_report.specs.Following.{Followed, next_of, unless_refused}
 use Rattle.bridge_playlists.specs.declared.place.StorePlace.{StorePlace}
-use Rattle.live_meaning.specs.States.{State}
+use Rattle.bridge_live.specs.declared.channel.Channel.{Channel}
 use Rattle.laws_of_jobs.specs.Histories.{IsFollowing, followed_at, frames_in}
 
 -- ---- for some frames
@@ -25,33 +25,33 @@ refused_along f s [] = 0
 refused_along f s (x ∷ xs) = unless_refused (f.refusal s x) 0 (f.makes s x) + refused_along f (next_of f s x) xs
 
 -- for the first n frames of an input
-abbrev pub appended_to : Followed (Option State) Frame → (n : ℕ) (input : List ℕ) → ℕ
+abbrev pub appended_to : Followed (Option Channel) Frame → (n : ℕ) (input : List ℕ) → ℕ
 appended_to f n input = appended_along f None (take n (frames_in input))
 
-abbrev pub refused_to : Followed (Option State) Frame → (n : ℕ) (input : List ℕ) → ℕ
+abbrev pub refused_to : Followed (Option Channel) Frame → (n : ℕ) (input : List ℕ) → ℕ
 refused_to f n input = refused_along f None (take n (frames_in input))
 
 -- All segments that the accepted ones of the first n frames append were made, and at most some of each rejected one.
-pub record MadeOf (f : Followed (Option State) Frame) (n : ℕ) (input : List ℕ) (before after : ℕ) : Type 0 where
+pub record MadeOf (f : Followed (Option Channel) Frame) (n : ℕ) (input : List ℕ) (before after : ℕ) : Type 0 where
   pub least : before + appended_to f n input ≤ after
   pub most : after ≤ before + appended_to f n input + refused_to f n input
 
 -- and at most some of the frame after them, or all
-pub record MadeBeyond (f : Followed (Option State) Frame) (n : ℕ) (input : List ℕ) (before after : ℕ) : Type 0 where
+pub record MadeBeyond (f : Followed (Option Channel) Frame) (n : ℕ) (input : List ℕ) (before after : ℕ) : Type 0 where
   pub least : before + appended_to f n input ≤ after
   pub most : after ≤ before + appended_to f (suc n) input + refused_to f (suc n) input
 
 -- ---- for a run
 
 -- out of memory in a frame of which no file is begun, or in one of which some are
-abbrev pub MadeWanting : {A B : Type 0} → A ⊎ B → Followed (Option State) Frame → (n : ℕ) (input : List ℕ) (before after : ℕ) → Type 0
+abbrev pub MadeWanting : {A B : Type 0} → A ⊎ B → Followed (Option Channel) Frame → (n : ℕ) (input : List ℕ) (before after : ℕ) → Type 0
 MadeWanting (inl none) f n input before after = MadeBeyond f n input before after
 MadeWanting (inr some) f n input before after = MadeOf f (suc n) input before after
 
 -- How many segments were made, by how the work ended. The lines of the first frames are reported, as far as the run reached.
 -- Where the store failed in the files of the next one, or the sink in its line, that one counts, too; a failed read counts
 -- for none.
-abbrev pub MadeBy : Followed (Option State) Frame → (input : List ℕ) (course : Course) (told : Ending) (before mid : World)
+abbrev pub MadeBy : Followed (Option Channel) Frame → (input : List ℕ) (course : Course) (told : Ending) (before mid : World)
     → Works course told before mid → (made : ℕ) → Type 0
 MadeBy f input course (ending.Ended v line) before mid works made = MadeOf f (length (frames_in input)) input before.made made
 MadeBy f input course ending.Words before mid works made = ⊥

@@ -10,7 +10,8 @@ use Rattle.laws_of_reloads.specs.{First.HoldState, Laws.Reloads}
 use Rattle.bridge_playlists.specs.declared.place.StorePlace.{StorePlace}
 use Rattle.bridge_steps.specs.Playlists.{spelling_in}
 use Rattle.bridge_core.specs.Follow.{output_of_job, terms_at}
-use Rattle.laws_of_jobs.specs.Histories.{IsFollowing, followed_at, frames_in, history_to, state_to}
+use Rattle.bridge_live.specs.LiveMpds.{frame_refusal}
+use Rattle.laws_of_jobs.specs.Histories.{IsFollowing, frames_in, history_to, said_to, state_to}
 
 -- ---- after some frames
 
@@ -22,11 +23,13 @@ prefix_of job = job.out ++ 47 ∷ []
 abbrev pub IsReadFrom : FollowJob → (t : ℕ) (url : List ℕ) → Type 0
 IsReadFrom job t url = (job.addresses ≡ Absolute) ⊎ (url ≡ job.base ++ (prefix_of job ++ playlist_name t))
 
--- none of the first n frames is accepted, or the files are those of the state after the whole accepted history
+-- None of the first n frames is accepted; or the files are those of the state after the whole accepted history, with a master by what
+-- the first accepted MPD says for players, where that is asked for.
 abbrev pub HoldsHistory : FollowJob → StorePlace → (n : ℕ) (input : List ℕ) → Files → Type 0
 HoldsHistory job place n input files =
     (history_to (terms_at job place) n input ≡ [])
-    ⊎ ((s : State) × (state_to (terms_at job place) n input ≡ Some s) × HoldState files (prefix_of job) (spelling_in (output_of_job job)) s)
+    ⊎ ((s : State) × (state_to (terms_at job place) n input ≡ Some s)
+    × HoldState files (prefix_of job) (spelling_in (output_of_job job)) (said_to job place n input) s)
 
 -- After the files of any number of frames each track's file is the playlist of the whole accepted history.
 abbrev pub FollowedFilesAreOfTheHistory : Type 0
@@ -50,7 +53,7 @@ pub record IsAnother (job : FollowJob) (place : StorePlace) (n : ℕ) (input : L
   pub leaves : state_to (terms_at job place) n input ≡ Some s
   pub frame : Frame
   pub next : slice_get (frames_in input) n ≡ Some frame
-  pub accepted : (followed_at job place).refusal (Some s) frame ≡ None
+  pub accepted : frame_refusal (terms_at job place) (Some s) frame ≡ None
 
 -- From the second accepted frame on, each track's file is a valid update of the one before, at its URL, and where URLs are absolute
 -- at each one.

@@ -5,13 +5,12 @@ use Rattle.bridge_jobs.specs.declared.jobs.FollowJob.{FollowJob}
 use Rattle.bridge_courses.specs.Courses.{Course}
 use Rattle.bridge_report.specs.Following.{step_of}
 use Rattle.bridge_playlists.specs.declared.place.StorePlace.{StorePlace}
-use Rattle.bridge_core.specs.Follow.{terms_at}
-use Rattle.laws_of_jobs.specs.Histories.{IsFollowing, followed_at, frames_in, state_to}
+use Rattle.laws_of_jobs.specs.Histories.{IsFollowing, channel_to, followed_at, frames_in}
 
--- The step of each frame depends on the state after the whole accepted history before it: by that the frame is rejected, written,
--- reported and counted.
+-- The step of each frame depends on the state after the whole accepted history before it, and on what the first accepted MPD says
+-- for players: by that the frame is rejected, written, reported and counted.
 abbrev pub FramesAreOfTheHistory : Type 0
 FramesAreOfTheHistory = (words : List (List ℕ)) (job : FollowJob) (place : StorePlace) (input : List ℕ) (course : Course) (n : ℕ)
     (x : Frame)
     → IsFollowing words job place input course → slice_get (frames_in input) n ≡ Some x
-    → slice_get course.steps n ≡ Some (step_of (followed_at job place) (state_to (terms_at job place) n input) n x)
+    → slice_get course.steps n ≡ Some (step_of (followed_at job place) (channel_to job place n input) n x)

@@ -1,6 +1,7 @@
 -- What a run follows, and the history of what it accepts.
 use Rattle.bridge_jobs.specs.declared.jobs.Job.TheVariants as jobs
-use Rattle.std.specs.{Prelude.{◌≡◌, ℕ, List, flat_map, take, Option, Some, option_to_list}, Result.result_ok}
+use Rattle.std.specs.Prelude.{◌≡◌, ℕ, List, [], ◌∷◌, flat_map, take, Option, Some, None, option_map, option_to_list, Result, Ok, Err}
+use Rattle.std.specs.Result.{result_ok}
 use Rattle.bridge_io.specs.Outside.{Files}
 use Rattle.bridge_jobs.specs.{Frames.frames_of, Jobs.job_of, declared.frame.Frame.Frame}
 use Rattle.bridge_jobs.specs.declared.jobs.FollowJob.{FollowJob}
@@ -8,7 +9,11 @@ use Rattle.bridge_courses.specs.Courses.{Course}
 use Rattle.live_meaning.specs.{Updates.{Terms, Update}, States.{State, state_of}, Laws.{NeverDrifts, accepted_of}}
 use Rattle.bridge_report.specs.Following.{Followed}
 use Rattle.bridge_playlists.specs.{Places.store_place_of, declared.place.StorePlace.StorePlace}
-use Rattle.bridge_live.specs.LiveMpds.{followed_mpd, update_of}
+use Rattle.bridge_live.specs.LiveMpds.{channel_with, followed_mpd, frame_players, frame_state, update_of}
+use Rattle.bridge_live.specs.declared.channel.Channel.{Channel}
+use Rattle.bridge_report.specs.declared.refusal.Refusal.{Refusal}
+use Rattle.segment_forms.specs.declared.form.Form.{Form}
+use Rattle.track_hints.specs.declared.hints.Hints.{Hints}
 use Rattle.bridge_core.specs.{Courses.course_of, Follow.{output_of_job, terms_at}}
 
 -- ---- what is followed
@@ -20,8 +25,8 @@ pub record IsFollowing (words : List (List ℕ)) (job : FollowJob) (place : Stor
   pub files : Option Files
   pub goes : course_of words files (Some input) ≡ Some course
 
-abbrev pub followed_at : FollowJob → StorePlace → Followed (Option State) Frame
-followed_at job place = followed_mpd (terms_at job place) (output_of_job job)
+abbrev pub followed_at : FollowJob → StorePlace → Followed (Option Channel) Frame
+followed_at job place = followed_mpd job.form (terms_at job place) (output_of_job job)
 
 -- ---- what is accepted
 
@@ -44,6 +49,23 @@ history_to terms n input = accepted_of terms (updates_to n input)
 -- the state after these
 abbrev pub state_to : Terms → (n : ℕ) (input : List ℕ) → Option State
 state_to terms n input = state_of terms (history_to terms n input)
+
+-- what the first accepted one of some frames says for players; a frame before it leaves no state
+abbrev pub said_or : (own : Option Hints) → Result State Refusal → (later : Option Hints) → Option Hints
+said_or own (Ok s) later = own
+said_or own (Err r) later = later
+
+abbrev pub first_said : Form → Terms → List Frame → Option Hints
+first_said form terms [] = None
+first_said form terms (x ∷ xs) = said_or (frame_players form x) (frame_state terms None x) (first_said form terms xs)
+
+-- of the first n frames of an input
+abbrev pub said_to : FollowJob → StorePlace → (n : ℕ) (input : List ℕ) → Option Hints
+said_to job place n input = first_said job.form (terms_at job place) (take n (frames_in input))
+
+-- the state after the accepted ones of these, with what the first one says
+abbrev pub channel_to : FollowJob → StorePlace → (n : ℕ) (input : List ℕ) → Option Channel
+channel_to job place n input = option_map (channel_with (said_to job place n input)) (state_to (terms_at job place) n input)
 
 -- ---- durations
 

@@ -9,8 +9,8 @@ use Rattle.laws_of_playlists.proofs.SameStatic.{in_turn, part_read, short}
 
 pub written_means : IndexedAreFinished → IndexedAreWritable → IndexedInitializationsAreLocated → IndexedPartsAreLocated
     → IndexedAreInPace → AreShortInPace → WrittenMeanTheSame → WrittenMeansTheIndex
-written_means finished writable initializations parts pace told same p digits files folder prefix place from found verified few own holds
-    spells wrote =
+written_means finished writable initializations parts pace told same p digits files folder prefix place players from fit found verified few
+    own holds spells wrote =
     let contents : All IsReadableContent p.contents = λ k d within. record {
       initialization = part_read _ (initializations p from found k d within);
       parts = λ x part is. part_read part (parts p from found k d within x part is);
@@ -31,4 +31,4 @@ written_means finished writable initializations parts pace told same p digits fi
         short = short p digits t told (λ s. pace p s t from);
       };
     } in
-    same p digits files folder prefix place readable own holds spells wrote
+    same p digits files folder prefix place players fit readable own holds spells wrote

@@ -4,9 +4,12 @@ pub mod IndexPresented
 pub mod IndexSound
 pub mod IndexWritten
 pub mod Items
+pub mod LineTexts
 pub mod MasterAttributes
 pub mod MasterCodes
 pub mod MasterFirsts
+pub mod MasterLabels
+pub mod MasterLaid
 pub mod MasterLines
 pub mod MasterLists
 pub mod MasterNames
@@ -15,8 +18,10 @@ pub mod MasterOrder
 pub mod MasterPlaces
 pub mod MasterRead
 pub mod MasterSets
+pub mod MasterTags
 pub mod MasterTold
 pub mod MasterTypes
+pub mod MasterVariants
 pub mod OriginCodes
 pub mod OriginIndexes
 pub mod OriginKept
@@ -26,6 +31,12 @@ pub mod OriginPace
 pub mod OriginParts
 pub mod OriginReadings
 pub mod OriginTracks
+pub mod PlayerCodes
+pub mod PlayerDefaults
+pub mod PlayerFamilies
+pub mod PlayerLists
+pub mod PlayerTargets
+pub mod PlayerTracks
 pub mod Readable
 pub mod SameEntries
 pub mod SameFolders

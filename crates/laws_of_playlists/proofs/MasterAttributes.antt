@@ -1,36 +1,47 @@
 -- The attributes of a master's lines are read as they were written.
-use Rattle.std.proofs.Common.{◌≡◌, ℕ, zero, suc, ◌+◌, ◌/◌, ◌%◌, ◌^◌, ◌<◌, ◌≤◌, Bool, true, false, not, ◌&&◌, eqb, leb, List, [], ◌∷◌, ◌++◌}
+use Rattle.std.proofs.Common.{◌≡◌, ℕ, zero, suc, ◌+◌, ◌/◌, ◌%◌, ◌^◌, ◌<◌, Bool, true, false, not, ◌&&◌, eqb, leb, List, [], ◌∷◌, ◌++◌}
 use Rattle.std.proofs.Common.{length, map, codes, decimal, Option, Ok, refl, sym, subst, arith, inl, inr, append-nil, length-append}
-use Rattle.std.proofs.{lemmas.Bool.{and_from, and_parts, cases_Bool, not-true, or_from, or_parts}, lemmas.Bool.Decides.nat_tests}
-use Rattle.std.proofs.lemmas.List.Folds.{list_all-append}
-use Rattle.std.specs.{Bool.⊤, Fmt.{digits, digits_onto, digit_glyph}, List.{AllByRecursion, list_any, list_all}}
+use Rattle.std.proofs.{lemmas.Bool.{and_from, and_parts, not-true, or_from, or_parts}, lemmas.Bool.Decides.nat_tests}
+use Rattle.std.proofs.lemmas.List.Folds.{list_all-append, list_any-append}
+use Rattle.std.specs.{Bool.⊤, List.{AllByRecursion, list_any, list_all}}
 use Rattle.iso_time.specs.Digits.{padded_digits}
 use Rattle.bridge_io.specs.declared.place.Place.{Place}
 use Rattle.hls_lines.specs.Attributes.{NameValue, attributes_of, ends_value, is_name, is_name_byte, is_quote, names_of, repeats_after}
 use Rattle.hls_lines.specs.Grammar.{AreWritten, IsWritten, IsWrittenValue}
 use Rattle.hls_lines.proofs.Grammar.{read}
-use Rattle.hls_writer.specs.Attributes.{WrittenAttribute, media_type, group_id, name, language, default, autoselect, playlist, bandwidth}
-use Rattle.hls_writer.specs.Attributes.{codecs, resolution, frame_rate, renditions, attribute_bytes, attributes_bytes, codes_bytes}
-use Rattle.hls_writer.specs.Attributes.{group_bytes, playlist_name, quoted, tag_or_undetermined, thousandths_bytes, type_name, yes_or_no}
-use Rattle.laws_of_playlists.specs.ReadLines.{ends_visibly, is_printable}
+use Rattle.hls_writer.specs.Attributes.{WrittenAttribute, media_type, group_id, name, label, language, default, autoselect, forced}
+use Rattle.hls_writer.specs.Attributes.{describes_video, transcribes_sound, channels, playlist, bandwidth, codecs, resolution, frame_rate}
+use Rattle.hls_writer.specs.Attributes.{renditions, no_captions, attribute_bytes, attributes_bytes, codes_bytes, group_bytes, playlist_name}
+use Rattle.hls_writer.specs.Attributes.{quoted, tag_or_undetermined, thousandths_bytes, type_name, yes_or_no}
+use Rattle.laws_of_playlists.specs.ReadLines.{IsPlain, ends_visibly, is_printable}
 use Rattle.laws_of_playlists.proofs.{WrittenLines.weaker, MasterTypes.{IsKnown, RenditionGroup, audio_group, of_known, text_group}}
-use Rattle.laws_of_playlists.proofs.MasterNames.{decimal_digits, is_digit, named}
+use Rattle.laws_of_playlists.proofs.LineTexts.{plain_append, plain_ascii, plain_behind}
+use Rattle.laws_of_playlists.proofs.MasterNames.{decimal_digits, decimal_some, is_digit, named}
 
 -- ---- a name and a value
 
 abbrev pub pair_of : WrittenAttribute → NameValue
 pair_of (media_type group) = (codes "TYPE", type_name group)
 pair_of (group_id group) = (codes "GROUP-ID", group_bytes group)
-pair_of (name tag number) = (codes "NAME", named tag number)
+pair_of (name stem number) = (codes "NAME", named stem number)
+pair_of (label text) = (codes "NAME", text)
 pair_of (language tag) = (codes "LANGUAGE", tag)
 pair_of (default is) = (codes "DEFAULT", yes_or_no is)
-pair_of autoselect = (codes "AUTOSELECT", codes "YES")
+pair_of (autoselect is) = (codes "AUTOSELECT", yes_or_no is)
+pair_of forced = (codes "FORCED", codes "YES")
+pair_of describes_video = (codes "CHARACTERISTICS", codes "public.accessibility.describes-video")
+pair_of transcribes_sound = (
+  codes "CHARACTERISTICS",
+  codes "public.accessibility.transcribes-spoken-dialog,public.accessibility.describes-music-and-sound",
+)
+pair_of (channels count) = (codes "CHANNELS", decimal count)
 pair_of (playlist track) = (codes "URI", playlist_name track)
 pair_of (bandwidth bits) = (codes "BANDWIDTH", decimal bits)
 pair_of (codecs list) = (codes "CODECS", codes_bytes list)
 pair_of (resolution size) = (codes "RESOLUTION", decimal size.width ++ 120 ∷ decimal size.height)
 pair_of (frame_rate thousandths) = (codes "FRAME-RATE", thousandths_bytes thousandths)
 pair_of (renditions group) = (type_name group, group_bytes group)
+pair_of no_captions = (codes "CLOSED-CAPTIONS", codes "NONE")
 
 -- ---- characters
 
@@ -67,24 +78,18 @@ none_any test (b ∷ bs) all = let parts = and_parts (not (test b)) (list_all (�
 unquoted : (text : List ℕ) → IsCarried text → list_any is_quote text ≡ false
 unquoted text carried = none_any is_quote text (weaker is_carried (λ b. not (is_quote b)) carried_unquoted text carried)
 
+pub carried_text : (text : List ℕ) → IsCarried text → list_all is_printable text ≡ true
+carried_text text = weaker is_carried is_printable carried_printable text
+
+-- what an attribute can have in quotes
+pub record IsSaid (text : List ℕ) : Type 0 where
+  pub plain : IsPlain text
+  pub unquoted : list_any is_quote text ≡ false
+
+pub carried_said : (text : List ℕ) → IsCarried text → IsSaid text
+carried_said text carried = record { plain = plain_ascii text (carried_text text carried); unquoted = unquoted text carried }
+
 -- ---- numbers
-
-digits_grow : (k n : ℕ) (behind : List ℕ) → length behind ≤ length (digits_onto k 10 false n behind)
-digits_grow zero n behind = omega arith
-digits_grow (suc k) n behind = elim (cases_Bool (eqb (n / 10) 0)) [
-  | inl is ↦ rw is (omega arith)
-  | inr isnt ↦ rw isnt (omega (arith, digits_grow k (n / 10) (digit_glyph false (n % 10) ∷ behind)))
-]
-
-digits_some : (k n : ℕ) → 0 < length (digits_onto (suc k) 10 false n [])
-digits_some k n = elim (cases_Bool (eqb (n / 10) 0)) [
-  | inl is ↦ rw is (omega arith)
-  | inr isnt ↦ rw isnt (omega (arith, digits_grow k (n / 10) (digit_glyph false (n % 10) ∷ [])))
-]
-
-decimal_some : (n : ℕ) → 0 < length (decimal n)
-unfolding digits
-decimal_some n = digits_some 63 n
 
 abbrev is_plain : ℕ → Bool
 is_plain b = not (ends_value b)
@@ -107,8 +112,8 @@ padded_digits_are (suc width) n = let one : is_digit (48 + n / 10 ^ width % 10) 
 plain_value : (value : List ℕ) → 0 < length value → list_all is_plain value ≡ true → IsWrittenValue value value
 plain_value value some all = inl (record { is = refl; some = some; clean = none_any ends_value value all })
 
-quoted_value : (value : List ℕ) → IsCarried value → IsWrittenValue value (quoted value)
-quoted_value value carried = inr (record { is = refl; clean = unquoted value carried })
+quoted_value : (value : List ℕ) → IsSaid value → IsWrittenValue value (quoted value)
+quoted_value value said = inr (record { is = refl; clean = said.unquoted })
 
 marked_value : (front rest : List ℕ) (mark : ℕ) → 0 < length front → list_all is_plain front ≡ true → is_plain mark ≡ true
     → list_all is_plain rest ≡ true → IsWrittenValue (front ++ mark ∷ rest) (front ++ mark ∷ rest)
@@ -120,7 +125,8 @@ abbrev pub IsFine : WrittenAttribute → Type 0
 IsFine (media_type group) = IsKnown group
 IsFine (group_id group) = IsKnown group
 IsFine (renditions group) = IsKnown group
-IsFine (name tag number) = IsCarried (tag_or_undetermined tag)
+IsFine (name stem number) = IsSaid (tag_or_undetermined stem)
+IsFine (label text) = IsSaid text
 IsFine (language tag) = IsCarried tag
 IsFine (codecs list) = IsCarried (codes_bytes list)
 IsFine _ = ⊤
@@ -134,8 +140,11 @@ pub playlist_carried : (track : ℕ) → IsCarried (playlist_name track)
 playlist_carried track = carried_append (codes "t" ++ decimal track) (codes ".m3u8")
     (carried_append (codes "t") (decimal track) refl (number_carried track)) refl
 
-name_carried : (tag : Option (List ℕ)) (number : ℕ) → IsCarried (tag_or_undetermined tag) → IsCarried (named tag number)
-name_carried tag number carried = carried_append (tag_or_undetermined tag) (45 ∷ decimal number) carried (number_carried number)
+name_said : (stem : Option (List ℕ)) (number : ℕ) → IsSaid (tag_or_undetermined stem) → IsSaid (named stem number)
+name_said stem number said = let rest = carried_said (45 ∷ decimal number) (number_carried number) in record {
+  plain = plain_append (tag_or_undetermined stem) 45 (decimal number) (omega arith) said.plain rest.plain;
+  unquoted = rw (list_any-append is_quote (tag_or_undetermined stem) (45 ∷ decimal number), said.unquoted) rest.unquoted;
+}
 
 abbrev Written : WrittenAttribute → Type 0
 Written attribute = IsWritten (pair_of attribute) (attribute_bytes attribute)
@@ -150,22 +159,32 @@ attribute_written (media_type group) fine = of_known (λ group. Written (media_t
     (λ number. of_value (codes "TYPE", codes "AUDIO") (codes "AUDIO") refl (plain_value (codes "AUDIO") (omega arith) refl))
     (of_value (codes "TYPE", codes "SUBTITLES") (codes "SUBTITLES") refl (plain_value (codes "SUBTITLES") (omega arith) refl)) group fine
 attribute_written (group_id group) fine = of_value (codes "GROUP-ID", group_bytes group) (quoted (group_bytes group)) refl
-    (quoted_value (group_bytes group) (group_carried group fine))
-attribute_written (name tag number) fine = of_value (codes "NAME", named tag number) (quoted (named tag number)) refl
-    (quoted_value (named tag number) (name_carried tag number fine))
-attribute_written (language tag) fine = of_value (codes "LANGUAGE", tag) (quoted tag) refl (quoted_value tag fine)
+    (quoted_value (group_bytes group) (carried_said (group_bytes group) (group_carried group fine)))
+attribute_written (name stem number) fine = of_value (codes "NAME", named stem number) (quoted (named stem number)) refl
+    (quoted_value (named stem number) (name_said stem number fine))
+attribute_written (label text) fine = of_value (codes "NAME", text) (quoted text) refl (quoted_value text fine)
+attribute_written (language tag) fine = of_value (codes "LANGUAGE", tag) (quoted tag) refl (quoted_value tag (carried_said tag fine))
 attribute_written (default true) fine = of_value (codes "DEFAULT", codes "YES") (codes "YES") refl
     (plain_value (codes "YES") (omega arith) refl)
 attribute_written (default false) fine = of_value (codes "DEFAULT", codes "NO") (codes "NO") refl
     (plain_value (codes "NO") (omega arith) refl)
-attribute_written autoselect fine = of_value (codes "AUTOSELECT", codes "YES") (codes "YES") refl
+attribute_written (autoselect true) fine = of_value (codes "AUTOSELECT", codes "YES") (codes "YES") refl
     (plain_value (codes "YES") (omega arith) refl)
+attribute_written (autoselect false) fine = of_value (codes "AUTOSELECT", codes "NO") (codes "NO") refl
+    (plain_value (codes "NO") (omega arith) refl)
+attribute_written forced fine = of_value (codes "FORCED", codes "YES") (codes "YES") refl (plain_value (codes "YES") (omega arith) refl)
+attribute_written describes_video fine = let text = (pair_of describes_video).1 in
+    of_value (codes "CHARACTERISTICS", text) (quoted text) refl (quoted_value text (carried_said text refl))
+attribute_written transcribes_sound fine = let text = (pair_of transcribes_sound).1 in
+    of_value (codes "CHARACTERISTICS", text) (quoted text) refl (quoted_value text (carried_said text refl))
+attribute_written (channels count) fine = of_value (codes "CHANNELS", decimal count) (quoted (decimal count)) refl
+    (quoted_value (decimal count) (carried_said (decimal count) (number_carried count)))
 attribute_written (playlist track) fine = of_value (codes "URI", playlist_name track) (quoted (playlist_name track)) refl
-    (quoted_value (playlist_name track) (playlist_carried track))
+    (quoted_value (playlist_name track) (carried_said (playlist_name track) (playlist_carried track)))
 attribute_written (bandwidth bits) fine = of_value (codes "BANDWIDTH", decimal bits) (decimal bits) refl
     (plain_value (decimal bits) (decimal_some bits) (number_plain bits))
 attribute_written (codecs list) fine = of_value (codes "CODECS", codes_bytes list) (quoted (codes_bytes list)) refl
-    (quoted_value (codes_bytes list) fine)
+    (quoted_value (codes_bytes list) (carried_said (codes_bytes list) fine))
 attribute_written (resolution size) fine = of_value (codes "RESOLUTION", decimal size.width ++ 120 ∷ decimal size.height)
     (decimal size.width ++ 120 ∷ decimal size.height) refl
     (marked_value (decimal size.width) (decimal size.height) 120 (decimal_some size.width) (number_plain size.width) refl
@@ -177,9 +196,11 @@ attribute_written (frame_rate thousandths) fine = of_value (codes "FRAME-RATE", 
     (padded_digits_are 3 thousandths)))
 attribute_written (renditions group) fine = of_known (λ group. IsCarried (group_bytes group) → Written (renditions group))
     (λ number carried. of_value (codes "AUDIO", group_bytes (audio_group number)) (quoted (group_bytes (audio_group number))) refl
-    (quoted_value (group_bytes (audio_group number)) carried))
+    (quoted_value (group_bytes (audio_group number)) (carried_said (group_bytes (audio_group number)) carried)))
     (λ carried. of_value (codes "SUBTITLES", group_bytes text_group) (quoted (group_bytes text_group)) refl
-    (quoted_value (group_bytes text_group) carried)) group fine (group_carried group fine)
+    (quoted_value (group_bytes text_group) (carried_said (group_bytes text_group) carried))) group fine (group_carried group fine)
+attribute_written no_captions fine = of_value (codes "CLOSED-CAPTIONS", codes "NONE") (codes "NONE") refl
+    (plain_value (codes "NONE") (omega arith) refl)
 
 -- ---- lists
 
@@ -206,13 +227,6 @@ attributes_are first others place fine once =
 
 -- ---- their characters
 
-printable_append : (xs ys : List ℕ) → list_all is_printable xs ≡ true → list_all is_printable ys ≡ true
-    → list_all is_printable (xs ++ ys) ≡ true
-printable_append xs ys first second = rw (list_all-append is_printable xs ys, first) second
-
-pub carried_text : (text : List ℕ) → IsCarried text → list_all is_printable text ≡ true
-carried_text text = weaker is_carried is_printable carried_printable text
-
 -- a text that isn't empty ends where its end ends
 pub ends_append : (xs ys : List ℕ) → 0 < length ys → ends_visibly ys ≡ true → ends_visibly (xs ++ ys) ≡ true
 ends_append [] ys some e = e
@@ -222,29 +236,37 @@ ends_append (x ∷ (z ∷ xs)) ys some e = ends_append (z ∷ xs) ys some e
 
 -- ---- the text of a list
 
--- of printed characters, and with a visible one at its end
+-- without control characters, and with a visible one at its end
 pub record IsReadableText (text : List ℕ) : Type 0 where
   pub some : 0 < length text
-  pub printable : list_all is_printable text ≡ true
+  pub plain : IsPlain text
   pub ends : ends_visibly text ≡ true
 
-value_carried : (attribute : WrittenAttribute) → IsFine attribute → IsCarried (pair_of attribute).1
-value_carried (media_type group) fine = of_known (λ group. IsCarried (type_name group)) (λ number. refl) refl group fine
-value_carried (group_id group) fine = group_carried group fine
-value_carried (name tag number) fine = name_carried tag number fine
-value_carried (language tag) fine = fine
-value_carried (default true) fine = refl
-value_carried (default false) fine = refl
-value_carried autoselect fine = refl
-value_carried (playlist track) fine = playlist_carried track
-value_carried (bandwidth bits) fine = number_carried bits
-value_carried (codecs list) fine = fine
-value_carried (resolution size) fine = carried_append (decimal size.width) (120 ∷ decimal size.height) (number_carried size.width)
-    (number_carried size.height)
-value_carried (frame_rate thousandths) fine = carried_append (decimal (thousandths / 1000)) (46 ∷ padded_digits 3 thousandths)
-    (number_carried (thousandths / 1000)) (weaker is_digit is_carried digit_carried (padded_digits 3 thousandths)
-    (padded_digits_are 3 thousandths))
-value_carried (renditions group) fine = group_carried group fine
+value_said : (attribute : WrittenAttribute) → IsFine attribute → IsSaid (pair_of attribute).1
+value_said (media_type group) fine = of_known (λ group. IsSaid (type_name group)) (λ number. carried_said (codes "AUDIO") refl)
+    (carried_said (codes "SUBTITLES") refl) group fine
+value_said (group_id group) fine = carried_said (group_bytes group) (group_carried group fine)
+value_said (name stem number) fine = name_said stem number fine
+value_said (label text) fine = fine
+value_said (language tag) fine = carried_said tag fine
+value_said (default true) fine = carried_said (codes "YES") refl
+value_said (default false) fine = carried_said (codes "NO") refl
+value_said (autoselect true) fine = carried_said (codes "YES") refl
+value_said (autoselect false) fine = carried_said (codes "NO") refl
+value_said forced fine = carried_said (codes "YES") refl
+value_said describes_video fine = carried_said (pair_of describes_video).1 refl
+value_said transcribes_sound fine = carried_said (pair_of transcribes_sound).1 refl
+value_said (channels count) fine = carried_said (decimal count) (number_carried count)
+value_said (playlist track) fine = carried_said (playlist_name track) (playlist_carried track)
+value_said (bandwidth bits) fine = carried_said (decimal bits) (number_carried bits)
+value_said (codecs list) fine = carried_said (codes_bytes list) fine
+value_said (resolution size) fine = carried_said (decimal size.width ++ 120 ∷ decimal size.height)
+    (carried_append (decimal size.width) (120 ∷ decimal size.height) (number_carried size.width) (number_carried size.height))
+value_said (frame_rate thousandths) fine = carried_said (thousandths_bytes thousandths)
+    (carried_append (decimal (thousandths / 1000)) (46 ∷ padded_digits 3 thousandths) (number_carried (thousandths / 1000))
+    (weaker is_digit is_carried digit_carried (padded_digits 3 thousandths) (padded_digits_are 3 thousandths)))
+value_said (renditions group) fine = carried_said (group_bytes group) (group_carried group fine)
+value_said no_captions fine = carried_said (codes "NONE") refl
 
 name_printable : (b : ℕ) → is_name_byte b ≡ true → is_printable b ≡ true
 name_printable b e = grind (arith, nat_tests)
@@ -261,8 +283,8 @@ ends_cons : (b : ℕ) (text : List ℕ) → 0 < length text → ends_visibly tex
 ends_cons b [] some e = absurd (omega arith)
 ends_cons b (c ∷ text) some e = e
 
-readable_written : (attribute : NameValue) (text : List ℕ) → IsWritten attribute text → IsCarried attribute.1 → IsReadableText text
-readable_written attribute text is carried = subst IsReadableText (sym is.is) (of_value is.valued)
+readable_written : (attribute : NameValue) (text : List ℕ) → IsWritten attribute text → IsSaid attribute.1 → IsReadableText text
+readable_written attribute text is said = subst IsReadableText (sym is.is) (of_value is.valued)
   where
     front : list_all is_printable attribute.0 ≡ true
     front = weaker is_name_byte is_printable name_printable attribute.0
@@ -271,21 +293,21 @@ readable_written attribute text is carried = subst IsReadableText (sym is.is) (o
     of_value : IsWrittenValue attribute.1 is.value → IsReadableText (attribute.0 ++ 61 ∷ is.value)
     of_value (inl plain) = subst (λ (value : List ℕ). IsReadableText (attribute.0 ++ 61 ∷ value)) (sym plain.is) (record {
       some = omega (arith, length-append attribute.0 (61 ∷ attribute.1));
-      printable = printable_append attribute.0 (61 ∷ attribute.1) front (carried_text attribute.1 carried);
+      plain = plain_behind attribute.0 (61 ∷ attribute.1) front (plain_behind (61 ∷ []) attribute.1 refl said.plain);
       ends = ends_append attribute.0 (61 ∷ attribute.1) (omega arith)
           (ends_cons 61 attribute.1 plain.some (ends_plain attribute.1 plain.clean));
     })
     of_value (inr quoted) = subst (λ (value : List ℕ). IsReadableText (attribute.0 ++ 61 ∷ value)) (sym quoted.is) (record {
       some = omega (arith, length-append attribute.0 (61 ∷ (34 ∷ (attribute.1 ++ 34 ∷ []))));
-      printable = printable_append attribute.0 (61 ∷ (34 ∷ (attribute.1 ++ 34 ∷ []))) front
-          (printable_append attribute.1 (34 ∷ []) (carried_text attribute.1 carried) refl);
+      plain = plain_behind attribute.0 (61 ∷ (34 ∷ (attribute.1 ++ 34 ∷ []))) front (plain_behind (61 ∷ (34 ∷ [])) (attribute.1 ++ 34 ∷ [])
+          refl (plain_append attribute.1 34 [] (omega arith) said.plain (plain_ascii (34 ∷ []) refl)));
       ends = ends_append attribute.0 (61 ∷ (34 ∷ (attribute.1 ++ 34 ∷ []))) (omega arith)
           (ends_append (61 ∷ (34 ∷ attribute.1)) (34 ∷ []) (omega arith) refl);
     })
 
 readable_attribute : (attribute : WrittenAttribute) → IsFine attribute → IsReadableText (attribute_bytes attribute)
 readable_attribute attribute fine = readable_written (pair_of attribute) (attribute_bytes attribute) (attribute_written attribute fine)
-    (value_carried attribute fine)
+    (value_said attribute fine)
 
 pub readable_attributes : (first : WrittenAttribute) (others : List WrittenAttribute) → AllByRecursion IsFine (first ∷ others)
     → IsReadableText (attributes_bytes first others)
@@ -294,7 +316,8 @@ readable_attributes first (next ∷ others) fine =
     let one = readable_attribute first fine.0 in
     let rest = readable_attributes next others fine.1 in record {
       some = omega (arith, length-append (attribute_bytes first) (44 ∷ attributes_bytes next others));
-      printable = printable_append (attribute_bytes first) (44 ∷ attributes_bytes next others) one.printable rest.printable;
+      plain = plain_append (attribute_bytes first) 44 (attributes_bytes next others) (omega arith) one.plain
+          (plain_behind (44 ∷ []) (attributes_bytes next others) refl rest.plain);
       ends = ends_append (attribute_bytes first) (44 ∷ attributes_bytes next others) (omega arith)
           (ends_cons 44 (attributes_bytes next others) rest.some rest.ends);
     }

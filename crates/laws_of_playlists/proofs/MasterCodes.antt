@@ -10,7 +10,8 @@ use Rattle.url_parts.specs.{declared.code.CodeClass.CodeClass, Codes.class_of}
 use Rattle.mpd_values.specs.{declared.blank.Blank.TheVariants.Space, Blanks.trimmed, Codecs.{agrees, codes_of, is_foreign}}
 use Rattle.hls_master.specs.{Codes.{belongs, has_code, is_of}, Tracks.variant_kind, Variants.VariantValue}
 use Rattle.hls_writer.specs.{Attributes.codes_bytes, Variants.{codecs_at, codes_from, codes_in, with_codes, codes_of as codes_written}}
-use Rattle.presentation.specs.{declared.track.Track.Track, Groups.same_text}
+use Rattle.presentation.specs.declared.track.Track.{Track}
+use Rattle.audio_groups.specs.Groups.{same_text}
 use Rattle.laws_of_playlists.specs.Tracks.{AreOwnCodes}
 
 abbrev is_comma : ℕ → Bool

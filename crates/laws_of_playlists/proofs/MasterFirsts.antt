@@ -124,6 +124,33 @@ module _ (address : ℕ → List ℕ) (bound : ℕ) (apart : (p q : ℕ) → p <
             (λ q least most e. omega arith) later),
       )
 
+  -- where there are all of them in each choice, the first choice has them all
+  pub first_block : (choice : Option ℕ) (count place : ℕ) (seen : List (List ℕ)) (ms rest : List Mentioned)
+      → AllZip TellsVideo (map (λ p. video_variant p choice) (range_with_len place count)) ms → place + count ≤ bound
+      → AreFree place (place + count) seen
+      → ((later : List (List ℕ)) → ((q : ℕ) → place ≤ q → q < place + count → is_among (address q) later ≡ true)
+      → ((text : List ℕ) → is_among text seen ≡ true → is_among text later ≡ true) → firsts_behind later rest ≡ [])
+      → AllZip (IsVideoAt address) (range_with_len place count) (firsts_behind seen (ms ++ rest))
+  first_block choice zero place seen [] rest all few free none =
+      rw (none seen (λ q least most. absurd (omega arith)) (λ text e. e)) tt
+  first_block choice zero place seen (m ∷ ms) rest all few free none = absurd all
+  first_block choice (suc count) place seen [] rest all few free none = absurd all
+  first_block choice (suc count) place seen (m ∷ ms) rest all few free none =
+      let new : is_among (address_of m) seen ≡ false = ap (λ text. is_among text seen) all.0.1 ∙ free place (omega arith) (omega arith) in
+      let later : AreFree (place + 1) (place + 1 + count) seen = λ q least most. free q (omega arith) (omega arith) in
+      rw new (
+        all.0,
+        first_block choice count (place + 1) (address_of m ∷ seen) ms rest all.1 (omega arith)
+            (free_more (place + 1) (place + 1 + count) place (address_of m) seen (omega arith) (omega arith) all.0.1
+            (λ q least most e. omega arith) later)
+            (λ more known_more kept_more. none more (λ q least most. elim (cases_lt place q) [
+              | inl less ↦ known_more q (omega arith) (omega arith)
+              | inr isnt ↦ let is : q ≡ place = omega arith in
+                  kept_more (address q) (or_left _ _ (ap (bytes_eq (address q)) (all.0.1 ∙ sym (ap address is))
+                  ∙ equals_itself (address q)))
+            ]) (λ text e. kept_more text (or_right (bytes_eq text (address_of m)) (is_among text seen) e))),
+      )
+
   -- ---- the whole
 
   abbrev pub IsWithin : (from to : ℕ) → Mentioned → Type 0
@@ -133,6 +160,11 @@ module _ (address : ℕ → List ℕ) (bound : ℕ) (apart : (p q : ℕ) → p <
       → (ms : List Mentioned) → AllByRecursion (IsWithin from to) ms → AllByRecursion (λ m. is_among (address_of m) seen ≡ true) ms
   all_within from to seen is = all_weaker (IsWithin from to) _ (λ m within. ap (λ text. is_among text seen) within.1.1.1
       ∙ is within.0 within.1.0 within.1.1.0)
+
+  pub nothing_new : (from to : ℕ) (seen : List (List ℕ)) → ((q : ℕ) → from ≤ q → q < to → is_among (address q) seen ≡ true)
+      → (ms : List Mentioned) → AllByRecursion (IsWithin from to) ms → firsts_behind seen ms ≡ []
+  nothing_new from to seen is ms within = ap (firsts_behind seen) (sym (append-nil ms))
+      ∙ known ms [] seen (all_within from to seen is ms within)
 
   module _ (first : ℕ) (audios texts : List Mentioned) (audios_stand : Stand address first audios)
       (texts_stand : Stand address (first + length audios) texts) (few : first + length audios + length texts ≤ bound) where
@@ -158,8 +190,5 @@ module _ (address : ℕ → List ℕ) (bound : ℕ) (apart : (p q : ℕ) → p <
         (free_behind 0 (0 + first) first [] audios audios_stand (omega arith) (omega arith) (λ q least most at end. omega arith)
         (λ q least most. refl))
 
-    pub nothing_new : (variants : List Mentioned) → AllByRecursion (IsWithin first (first + length audios)) variants
-        → firsts_behind seen_then variants ≡ []
-    nothing_new variants within = ap (firsts_behind seen_then) (sym (append-nil variants))
-        ∙ known variants [] seen_then (all_within first (first + length audios) seen_then
-        (λ q least most. kept (address q) (behind [] audios) texts (seen_behind first [] audios audios_stand q least most)) variants within)
+    pub seen_audio : (q : ℕ) → first ≤ q → q < first + length audios → is_among (address q) seen_then ≡ true
+    seen_audio q least most = kept (address q) (behind [] audios) texts (seen_behind first [] audios audios_stand q least most)

@@ -1,20 +1,17 @@
 -- The mentions of the tracks of a presentation, in their order.
-use Rattle.std.proofs.Common.{◌≡◌, ℕ, zero, suc, ◌+◌, ◌^◌, ◌<◌, ◌≤◌, Bool, true, false, eqb, List, [], ◌∷◌, ◌++◌, ◌⊎◌, length, map}
-use Rattle.std.proofs.Common.{get_or, sum_by, All, Some, unwrap_or, refl, sym, ◌∙◌, ap, ap₂, subst, arith, inl, inr, append_assoc}
+use Rattle.std.proofs.Common.{◌≡◌, ℕ, suc, ◌+◌, ◌<◌, ◌≤◌, Bool, true, false, eqb, List, [], ◌∷◌, ◌++◌, ◌⊎◌, length, map}
+use Rattle.std.proofs.Common.{get_or, sum_by, Option, Some, refl, sym, ◌∙◌, ap, ap₂, subst, arith, inl, inr, append_assoc}
 use Rattle.std.proofs.{Common.append-nil, lemmas.Bool.ne_eqb, lemmas.List.Sums.get_or-le-sum_by}
-use Rattle.std.proofs.lemmas.Option.{get_or_from_slice_get, same_Some, slice_get_within}
+use Rattle.std.proofs.lemmas.Option.{get_or_from_slice_get, slice_get_within}
 use Rattle.std.specs.{Bool.⊤, List.{AllByRecursion, AllZip, range_with_len, slice_get}, List.Sorted.IsNonDecreasingBy}
 use Rattle.bridge_io.specs.{declared.media.Kind.Kind, declared.media.Kind.TheVariants.{Video, Audio, Text}}
-use Rattle.hls_master.specs.{Addresses.address_value, Renditions.{RenditionValue, kind_of_type, same_rendition_set}}
+use Rattle.hls_master.specs.{Addresses.address_value, Renditions.{RenditionValue, same_rendition_set}}
 use Rattle.hls_master.specs.Tracks.{Mentioned, by_rendition, by_variant, address_of, kind_of, same_set, variant_kind}
-use Rattle.hls_writer.specs.Attributes.{group_bytes, playlist_name, type_name}
-use Rattle.hls_writer.specs.Renditions.{keys_of, language_at, own_rendition, places_from, places_of, text_from}
-use Rattle.presentation.specs.{declared.track.Track.Track, Groups.{groups_of, is_audio}, Order.is_of}
-use Rattle.laws_of_playlists.specs.{Master.{heads_from, told_language}, Tracks.HaveOneLanguage}
-use Rattle.laws_of_playlists.proofs.MasterTypes.{AudioTrack, Rendition, RenditionGroup, text_group}
+use Rattle.hls_writer.specs.{Attributes.playlist_name, Renditions.{places_from, places_of}}
+use Rattle.presentation.specs.{declared.track.Track.Track, Order.is_of}
+use Rattle.laws_of_playlists.specs.Master.{heads_from, told_language}
 use Rattle.laws_of_playlists.proofs.{MasterFirsts.{IsVideo, IsVideoAt, Stand}, MasterLists.all_weaker}
-use Rattle.laws_of_playlists.proofs.MasterNames.{by_number, named, same_test}
-use Rattle.laws_of_playlists.proofs.{MasterNumbers.{number_few, number_is, number_of, set_told, sets_of}, MasterPlaces.Follow}
+use Rattle.laws_of_playlists.proofs.{MasterNames.same_test, MasterPlaces.Follow}
 use Rattle.laws_of_playlists.proofs.MasterSets.{AreGood, kinds_are_same, language_of, mention_head}
 
 -- ---- the places of the tracks of a kind
@@ -149,61 +146,48 @@ module _ (address : ℕ → List ℕ) where
         at = is.1;
       }
 
--- ---- what a reader sees of renditions
+-- ---- the renditions of audio and text tracks
 
-abbrev pub kind_of_group : RenditionGroup → Kind
-kind_of_group group = unwrap_or (kind_of_type (type_name group)) Video
+abbrev pub address_at : (url : List ℕ) → ℕ → List ℕ
+address_at url place = address_value url (playlist_name place)
 
-abbrev pub seen : (url : List ℕ) → List Track → Rendition → RenditionValue
-seen url tracks r = record {
-  kind = kind_of_group r.group;
-  group = group_bytes r.group;
-  name = named (language_at tracks r.track) r.number;
-  language = language_at tracks r.track;
-  address = address_value url (playlist_name r.track);
-}
+-- what a reader sees of a track's own rendition
+pub record IsOwn (url : List ℕ) (place : ℕ) (track : Track) (r : RenditionValue) : Type 0 where
+  pub kind : r.kind ≡ track.kind
+  pub language : r.language ≡ track.language
+  pub address : r.address ≡ address_at url place
+
+-- those of the tracks of a kind, by their places
+abbrev pub AreOwn : (url : List ℕ) → List Track → Kind → (ℕ → RenditionValue) → Type 0
+AreOwn url tracks kind own = (place : ℕ) (track : Track) → slice_get tracks place ≡ Some track → track.kind ≡ kind
+    → IsOwn url place track (own place)
+
+-- of two tracks of a kind a reader takes the renditions to be of one set exactly where the tracks have one number
+abbrev pub AreApart : List Track → Kind → (ℕ → RenditionValue) → (ℕ → Track → ℕ) → Type 0
+AreApart tracks kind own number = (p q : ℕ) (t u : Track) → slice_get tracks p ≡ Some t → slice_get tracks q ≡ Some u → t.kind ≡ kind
+    → u.kind ≡ kind → same_rendition_set (own p) (own q) ≡ eqb (number p t) (number q u)
+
+pub record AreTold (url : List ℕ) (tracks : List Track) (audio text : ℕ → RenditionValue) : Type 0 where
+  pub audios : AreOwn url tracks Audio audio
+  pub texts : AreOwn url tracks Text text
+  pub sets : AreApart tracks Audio audio (λ place track. track.set)
+  pub places : AreApart tracks Text text (λ place track. place)
+
+abbrev pub own_mention : (ℕ → RenditionValue) → ℕ → Mentioned
+own_mention own place = by_rendition (own place)
 
 module _ (url : List ℕ) (tracks : List Track) where
-  abbrev pub address_at : ℕ → List ℕ
-  address_at place = address_value url (playlist_name place)
-
-  abbrev pub audio_mention : ℕ → Mentioned
-  audio_mention place = by_rendition (seen url tracks (own_rendition tracks (keys_of tracks) (groups_of tracks) place))
-
-  abbrev pub text_rendition : (number place : ℕ) → Rendition
-  text_rendition number place = record { group = text_group; number = number; track = place }
-
-  abbrev pub text_renditions : (number place count : ℕ) → List Rendition
-  text_renditions number place zero = []
-  text_renditions number place (suc count) = text_rendition number place ∷ text_renditions (number + 1) (place + 1) count
-
-  pub texts_are : (found : List Rendition) (number place count : ℕ) → text_from found number (range_with_len place count)
-      ≡ found ++ text_renditions number place count
-  texts_are found number place zero = sym (append-nil found)
-  texts_are found number place (suc count) =
-      texts_are (found ++ text_rendition number place ∷ []) (number + 1) (place + 1) count
-      ∙ append_assoc found (text_rendition number place ∷ []) (text_renditions (number + 1) (place + 1) count)
-
-  language_is : (place : ℕ) (track : Track) → slice_get tracks place ≡ Some track → language_at tracks place ≡ track.language
-  language_is place track at = rw at refl
-
-  pub audios_shown : (place : ℕ) (xs : List Track) → Follow tracks place xs → AreOf Audio xs
-      → AreShown address_at place xs (map audio_mention (range_with_len place (length xs)))
-  audios_shown place [] at of = tt
-  audios_shown place (x ∷ xs) at of = (
-    record { kind = sym of.0; language = language_is place x at.0 ∙ sym (ap (λ kind. told_language kind x.language) of.0); at = refl },
-    audios_shown (place + 1) xs at.1 of.1,
-  )
-
-  abbrev pub text_mention : Rendition → Mentioned
-  text_mention r = by_rendition (seen url tracks r)
-
-  pub texts_shown : (number place : ℕ) (xs : List Track) → Follow tracks place xs → AreOf Text xs
-      → AreShown address_at place xs (map text_mention (text_renditions number place (length xs)))
-  texts_shown number place [] at of = tt
-  texts_shown number place (x ∷ xs) at of = (
-    record { kind = sym of.0; language = language_is place x at.0 ∙ sym (ap (λ kind. told_language kind x.language) of.0); at = refl },
-    texts_shown (number + 1) (place + 1) xs at.1 of.1,
+  pub owns_shown : (kind : Kind) (own : ℕ → RenditionValue) → ((language : Option (List ℕ)) → told_language kind language ≡ language)
+      → AreOwn url tracks kind own → (place : ℕ) (xs : List Track) → Follow tracks place xs → AreOf kind xs
+      → AreShown (address_at url) place xs (map (own_mention own) (range_with_len place (length xs)))
+  owns_shown kind own told are place [] at of = tt
+  owns_shown kind own told are place (x ∷ xs) at of = let is = are place x at.0 of.0 in (
+    record {
+      kind = is.kind;
+      language = is.language ∙ sym (told x.language) ∙ sym (ap (λ kind. told_language kind x.language) of.0);
+      at = is.address;
+    },
+    owns_shown kind own told are (place + 1) xs at.1 of.1,
   )
 
   -- ---- numbers of sets: one for all video, those of the audio sets, and one for each text track
@@ -211,166 +195,121 @@ module _ (url : List ℕ) (tracks : List Track) where
   abbrev pub most : ℕ
   most = sum_by (λ (track : Track). track.set) tracks
 
-  module _ (first_text : ℕ) where
+  set_below : (place : ℕ) (track : Track) → slice_get tracks place ≡ Some track → track.set ≤ most
+  set_below place track at = subst (λ (t : Track). t.set ≤ most) (get_or_from_slice_get tracks place track track at)
+      (get_or-le-sum_by (λ (t : Track). t.set) tracks place track (slice_get_within tracks place track at))
+
+  module _ (audio text : ℕ → RenditionValue) (told : AreTold url tracks audio text) where
     pub record IsAudioOf (r : RenditionValue) (k : ℕ) : Type 0 where
       pub place : ℕ
       pub track : Track
       pub at : slice_get tracks place ≡ Some track
-      pub audio : track.kind ≡ Audio
-      pub kind : r.kind ≡ Audio
-      pub language : r.language ≡ track.language
-      pub name : r.name ≡ named track.language (number_of tracks track.set)
+      pub of : track.kind ≡ Audio
+      pub is : r ≡ audio place
       pub key : k ≡ suc track.set
 
     pub record IsTextOf (r : RenditionValue) (k : ℕ) : Type 0 where
-      pub number : ℕ
+      pub place : ℕ
       pub track : Track
-      pub at : slice_get tracks (first_text + number) ≡ Some track
-      pub kind : r.kind ≡ Text
-      pub language : r.language ≡ track.language
-      pub name : r.name ≡ named track.language number
-      pub few : number < 2 ^ 64
-      pub key : k ≡ suc (suc (most + number))
+      pub at : slice_get tracks place ≡ Some track
+      pub of : track.kind ≡ Text
+      pub is : r ≡ text place
+      pub key : k ≡ suc (suc (most + place))
 
     abbrev pub Good : Mentioned → ℕ → Type 0
     Good (by_variant v) k = (variant_kind v ≡ Video) × (k ≡ 0)
     Good (by_rendition r) k = IsAudioOf r k ⊎ IsTextOf r k
 
-    set_below : (place : ℕ) (track : Track) → slice_get tracks place ≡ Some track → track.set ≤ most
-    set_below place track at = subst (λ (t : Track). t.set ≤ most) (get_or_from_slice_get tracks place track track at)
-        (get_or-le-sum_by (λ (t : Track). t.set) tracks place track (slice_get_within tracks place track at))
+    audio_kind : (r : RenditionValue) (k : ℕ) → IsAudioOf r k → r.kind ≡ Audio
+    audio_kind r k x = ap (λ (r : RenditionValue). r.kind) x.is ∙ (told.audios x.place x.track x.at x.of).kind ∙ x.of
 
-    module _ (few : length tracks < 2 ^ 64) (languages : All (λ one. All (HaveOneLanguage one) tracks) tracks) where
-      audio_is : (track : Track) → track.kind ≡ Audio → is_audio track.kind ≡ true
-      audio_is track e = ap is_audio e
+    text_kind : (r : RenditionValue) (k : ℕ) → IsTextOf r k → r.kind ≡ Text
+    text_kind r k x = ap (λ (r : RenditionValue). r.kind) x.is ∙ (told.texts x.place x.track x.at x.of).kind ∙ x.of
 
-      one_language : (r s : RenditionValue) (k n : ℕ) (x : IsAudioOf r k) (y : IsAudioOf s n) → x.track.set ≡ y.track.set
-          → r.language ≡ s.language
-      one_language r s k n x y sets =
-          let all = languages x.place x.track (slice_get_within tracks x.place x.track x.at) y.place y.track
-          (slice_get_within tracks y.place y.track y.at) in
-          let told : HaveOneLanguage x.track y.track = subst (λ (t : Track). HaveOneLanguage t y.track)
-          (get_or_from_slice_get tracks x.place x.track x.track x.at)
-          (subst (λ (u : Track). HaveOneLanguage (get_or tracks x.place x.track) u)
-          (get_or_from_slice_get tracks y.place y.track y.track y.at) all) in
-          x.language ∙ told (x.audio ∙ sym y.audio) sets ∙ sym y.language
+    audio_sets : (r s : RenditionValue) (k n : ℕ) → IsAudioOf r k → IsAudioOf s n → same_rendition_set r s ≡ eqb k n
+    audio_sets r s k n x y = ap₂ same_rendition_set x.is y.is
+        ∙ told.sets x.place y.place x.track y.track x.at y.at x.of y.of
+        ∙ same_test x.track.set y.track.set k n (λ e. x.key ∙ ap suc e ∙ sym y.key) (λ e. omega (arith, x.key, y.key, e))
 
-      audio_sets : (r s : RenditionValue) (k n : ℕ) → IsAudioOf r k → IsAudioOf s n → same_rendition_set r s ≡ eqb k n
-      audio_sets r s k n x y = let d : AudioTrack = record { place = 0; set = 0; codes = 0; rank = 0 } in
-          let back : number_of tracks x.track.set ≡ number_of tracks y.track.set → x.track.set ≡ y.track.set = λ e.
-          set_told tracks x.place x.track x.at (audio_is x.track x.audio) d ∙ ap (λ n. (get_or (sets_of tracks) n d).set) e
-          ∙ sym (set_told tracks y.place y.track y.at (audio_is y.track y.audio) d) in
-          by_number r s (number_of tracks x.track.set) (number_of tracks y.track.set) (rw (x.kind, y.kind) refl)
-          (rw x.language x.name) (rw y.language y.name)
-          (number_few tracks x.place x.track x.at (audio_is x.track x.audio) few)
-          (number_few tracks y.place y.track y.at (audio_is y.track y.audio) few)
-          (λ e. one_language r s k n x y (back e))
-          ∙ same_test (number_of tracks x.track.set) (number_of tracks y.track.set) k n (λ e. x.key ∙ ap suc (back e)
-          ∙ sym y.key) (λ e. let sets : x.track.set ≡ y.track.set = omega (arith, x.key, y.key, e) in ap (number_of tracks) sets)
+    text_sets : (r s : RenditionValue) (k n : ℕ) → IsTextOf r k → IsTextOf s n → same_rendition_set r s ≡ eqb k n
+    text_sets r s k n x y = ap₂ same_rendition_set x.is y.is
+        ∙ told.places x.place y.place x.track y.track x.at y.at x.of y.of
+        ∙ same_test x.place y.place k n (λ e. x.key ∙ ap (λ j. suc (suc (most + j))) e ∙ sym y.key)
+        (λ e. omega (arith, x.key, y.key, e))
 
-      text_sets : (r s : RenditionValue) (k n : ℕ) → IsTextOf r k → IsTextOf s n → same_rendition_set r s ≡ eqb k n
-      text_sets r s k n x y =
-          by_number r s x.number y.number (rw (x.kind, y.kind) refl) (rw x.language x.name) (rw y.language y.name) x.few y.few
-          (λ e. let tracks_are : x.track ≡ y.track = same_Some x.track y.track (sym x.at ∙ ap (λ n. slice_get tracks (first_text + n)) e
-          ∙ y.at) in x.language ∙ ap (λ (t : Track). t.language) tracks_are ∙ sym y.language)
-          ∙ same_test x.number y.number k n (λ e. x.key ∙ ap (λ j. suc (suc (most + j))) e
-          ∙ sym y.key) (λ e. omega (arith, x.key, y.key, e))
+    pub same_sets : (a b : Mentioned) (k n : ℕ) → Good a k → Good b n → same_set a b ≡ eqb k n
+    same_sets (by_variant v) (by_variant w) k n x y = rw (x.0, y.0, x.1, y.1) refl
+    same_sets (by_variant v) (by_rendition s) k n x (inl y) = sym (ne_eqb k n (λ e. omega (arith, x.1, y.key, e)))
+    same_sets (by_variant v) (by_rendition s) k n x (inr y) = sym (ne_eqb k n (λ e. omega (arith, x.1, y.key, e)))
+    same_sets (by_rendition r) (by_variant w) k n (inl x) y = sym (ne_eqb k n (λ e. omega (arith, x.key, y.1, e)))
+    same_sets (by_rendition r) (by_variant w) k n (inr x) y = sym (ne_eqb k n (λ e. omega (arith, x.key, y.1, e)))
+    same_sets (by_rendition r) (by_rendition s) k n (inl x) (inl y) = audio_sets r s k n x y
+    same_sets (by_rendition r) (by_rendition s) k n (inr x) (inr y) = text_sets r s k n x y
+    same_sets (by_rendition r) (by_rendition s) k n (inl x) (inr y) =
+        rw (audio_kind r k x, text_kind s n y) (sym (ne_eqb k n (λ e. omega (arith, x.key, y.key, set_below x.place x.track x.at, e))))
+    same_sets (by_rendition r) (by_rendition s) k n (inr x) (inl y) =
+        rw (text_kind r k x, audio_kind s n y) (sym (ne_eqb k n (λ e. omega (arith, x.key, y.key, set_below y.place y.track y.at, e))))
 
-      pub same_sets : (a b : Mentioned) (k n : ℕ) → Good a k → Good b n → same_set a b ≡ eqb k n
-      same_sets (by_variant v) (by_variant w) k n x y = rw (x.0, y.0, x.1, y.1) refl
-      same_sets (by_variant v) (by_rendition s) k n x (inl y) = sym (ne_eqb k n (λ e. omega (arith, x.1, y.key, e)))
-      same_sets (by_variant v) (by_rendition s) k n x (inr y) = sym (ne_eqb k n (λ e. omega (arith, x.1, y.key, e)))
-      same_sets (by_rendition r) (by_variant w) k n (inl x) y = sym (ne_eqb k n (λ e. omega (arith, x.key, y.1, e)))
-      same_sets (by_rendition r) (by_variant w) k n (inr x) y = sym (ne_eqb k n (λ e. omega (arith, x.key, y.1, e)))
-      same_sets (by_rendition r) (by_rendition s) k n (inl x) (inl y) = audio_sets r s k n x y
-      same_sets (by_rendition r) (by_rendition s) k n (inr x) (inr y) = text_sets r s k n x y
-      same_sets (by_rendition r) (by_rendition s) k n (inl x) (inr y) =
-          rw (x.kind, y.kind) (sym (ne_eqb k n (λ e. omega (arith, x.key, y.key, set_below x.place x.track x.at, e))))
-      same_sets (by_rendition r) (by_rendition s) k n (inr x) (inl y) =
-          rw (x.kind, y.kind) (sym (ne_eqb k n (λ e. omega (arith, x.key, y.key, set_below y.place y.track y.at, e))))
+    -- ---- they don't fall
 
-      -- ---- they don't fall
+    abbrev pub AreInOrder : ℕ → List Mentioned → Type 0
+    AreInOrder = AreGood Good same_sets
 
-      abbrev pub AreInOrder : ℕ → List Mentioned → Type 0
-      AreInOrder = AreGood Good same_sets
+    pub order_weaker : (low n : ℕ) (ms : List Mentioned) → low ≤ n → AreInOrder n ms → AreInOrder low ms
+    order_weaker low n [] less good = tt
+    order_weaker low n (m ∷ ms) less (k, (least, rest)) = (k, (omega arith, rest))
 
-      pub order_weaker : (low n : ℕ) (ms : List Mentioned) → low ≤ n → AreInOrder n ms → AreInOrder low ms
-      order_weaker low n [] less good = tt
-      order_weaker low n (m ∷ ms) less (k, (least, rest)) = (k, (omega arith, rest))
+    pub videos_in_order : (place : ℕ) (xs : List Track) (ms rest : List Mentioned)
+        → AllZip (IsVideoAt (address_at url)) (range_with_len place (length xs)) ms → AreInOrder 0 rest → AreInOrder 0 (ms ++ rest)
+    videos_in_order place [] [] rest all good = good
+    videos_in_order place [] (m ∷ ms) rest all good = absurd all
+    videos_in_order place (x ∷ xs) [] rest all good = absurd all
+    videos_in_order place (x ∷ xs) (m ∷ ms) rest all good =
+        (0, (omega arith, (video m all.0.0, videos_in_order (place + 1) xs ms rest all.1 good)))
+      where
+        video : (m : Mentioned) → IsVideo m → Good m 0
+        video (by_rendition r) is = absurd is
+        video (by_variant v) is = (is, refl)
 
-      pub videos_in_order : (place : ℕ) (xs : List Track) (ms rest : List Mentioned)
-          → AllZip (IsVideoAt address_at) (range_with_len place (length xs)) ms → AreInOrder 0 rest → AreInOrder 0 (ms ++ rest)
-      videos_in_order place [] [] rest all good = good
-      videos_in_order place [] (m ∷ ms) rest all good = absurd all
-      videos_in_order place (x ∷ xs) [] rest all good = absurd all
-      videos_in_order place (x ∷ xs) (m ∷ ms) rest all good =
-          (0, (omega arith, (video m all.0.0, videos_in_order (place + 1) xs ms rest all.1 good)))
-        where
-          video : (m : Mentioned) → IsVideo m → Good m 0
-          video (by_rendition r) is = absurd is
-          video (by_variant v) is = (is, refl)
+    -- sets that don't fall
+    abbrev pub Rising : ℕ → List Track → Type 0
+    Rising low [] = ⊤
+    Rising low (x ∷ xs) = (low ≤ x.set) × Rising x.set xs
 
-      -- sets that don't fall
-      abbrev pub Rising : ℕ → List Track → Type 0
-      Rising low [] = ⊤
-      Rising low (x ∷ xs) = (low ≤ x.set) × Rising x.set xs
+    pub rising : (low : ℕ) (xs : List Track) → ((i : ℕ) (d : Track) → i < length xs → low ≤ (get_or xs i d).set)
+        → IsNonDecreasingBy (λ (x : Track). x.set) xs → Rising low xs
+    rising low [] least order = tt
+    rising low (x ∷ xs) least order = (
+      least 0 x (omega arith),
+      rising x.set xs (λ i d within. order 0 (suc i) d (omega arith) (omega arith))
+          (λ i j d less within. order (suc i) (suc j) d (omega arith) (omega arith)),
+    )
 
-      pub rising : (low : ℕ) (xs : List Track) → ((i : ℕ) (d : Track) → i < length xs → low ≤ (get_or xs i d).set)
-          → IsNonDecreasingBy (λ (x : Track). x.set) xs → Rising low xs
-      rising low [] least order = tt
-      rising low (x ∷ xs) least order = (
-        least 0 x (omega arith),
-        rising x.set xs (λ i d within. order 0 (suc i) d (omega arith) (omega arith))
-            (λ i j d less within. order (suc i) (suc j) d (omega arith) (omega arith)),
-      )
-
-      pub audios_in_order : (low place : ℕ) (xs : List Track) (rest : List Mentioned) → Follow tracks place xs → AreOf Audio xs
-          → Rising low xs → low ≤ most → AreInOrder (suc (suc most)) rest
-          → AreInOrder (suc low) (map (audio_mention) (range_with_len place (length xs)) ++ rest)
-      audios_in_order low place [] rest at of up less good = order_weaker (suc low) (suc (suc most)) rest (omega arith) good
-      audios_in_order low place (x ∷ xs) rest at of up less good = (
-        suc x.set,
+    pub audios_in_order : (low place : ℕ) (xs : List Track) (rest : List Mentioned) → Follow tracks place xs → AreOf Audio xs
+        → Rising low xs → low ≤ most → AreInOrder (suc (suc most)) rest
+        → AreInOrder (suc low) (map (own_mention audio) (range_with_len place (length xs)) ++ rest)
+    audios_in_order low place [] rest at of up less good = order_weaker (suc low) (suc (suc most)) rest (omega arith) good
+    audios_in_order low place (x ∷ xs) rest at of up less good = (
+      suc x.set,
+      (
+        omega (arith, up.0),
         (
-          omega (arith, up.0),
-          (
-            inl (record {
-              place = place;
-              track = x;
-              at = at.0;
-              audio = of.0;
-              kind = refl;
-              language = language_is place x at.0;
-              name = ap₂ named (language_is place x at.0) (number_is tracks place x at.0 (audio_is x of.0));
-              key = refl;
-            }),
-            audios_in_order x.set (place + 1) xs rest at.1 of.1 up.1 (set_below place x at.0) good,
-          ),
+          inl (record { place = place; track = x; at = at.0; of = of.0; is = refl; key = refl }),
+          audios_in_order x.set (place + 1) xs rest at.1 of.1 up.1 (set_below place x at.0) good,
         ),
-      )
+      ),
+    )
 
-      pub texts_in_order : (low number : ℕ) (xs : List Track) → Follow tracks (first_text + number) xs → number + length xs < 2 ^ 64
-          → low ≤ suc (suc (most + number)) → AreInOrder low (map text_mention (text_renditions number (first_text + number) (length xs)))
-      texts_in_order low number [] at less least = tt
-      texts_in_order low number (x ∷ xs) at less least =
-          let next : first_text + number + 1 ≡ first_text + (number + 1) = omega arith in (
-            suc (suc (most + number)),
-            (
-              least,
-              (
-                inr (record {
-                  number = number;
-                  track = x;
-                  at = at.0;
-                  kind = refl;
-                  language = language_is (first_text + number) x at.0;
-                  name = ap (λ l. named l number) (language_is (first_text + number) x at.0);
-                  few = omega arith;
-                  key = refl;
-                }),
-                subst (λ (n : ℕ). AreInOrder (suc (suc (most + number))) (map text_mention (text_renditions (number + 1) n (length xs))))
-                    (sym next)
-                    (texts_in_order (suc (suc (most + number))) (number + 1) xs (subst (λ n. Follow tracks n xs) next at.1) (omega arith)
-                    (omega arith)),
-              ),
-            ),
-          )
+    pub texts_in_order : (low place : ℕ) (xs : List Track) → Follow tracks place xs → AreOf Text xs → low ≤ suc (suc (most + place))
+        → AreInOrder low (map (own_mention text) (range_with_len place (length xs)))
+    texts_in_order low place [] at of least = tt
+    texts_in_order low place (x ∷ xs) at of least = (
+      suc (suc (most + place)),
+      (
+        least,
+        (
+          inr (record { place = place; track = x; at = at.0; of = of.0; is = refl; key = refl }),
+          texts_in_order (suc (suc (most + place))) (place + 1) xs at.1 of.1 (omega arith),
+        ),
+      ),
+    )

@@ -6,8 +6,9 @@ use Rattle.std.proofs.{lemmas.List.{length_push, take-take}, lemmas.List.Folds.l
 use Rattle.std.proofs.{lemmas.List.Sums.sum_by-take-le, lemmas.Option.{get_or_from_slice_get, same_Some, slice_get_within}}
 use Rattle.std.proofs.lemmas.Slice.Eq.{bytes_eq-Decides}
 use Rattle.std.specs.{Bool.⊤, List.{AllByRecursion, list_any, slice_get}, Option.option_eq}
-use Rattle.presentation.specs.{declared.track.Track.Track, Groups.{has_codes_of, is_audio, rendition_at, renditions_from, same_text}}
-use Rattle.hls_writer.specs.Renditions.{is_same_key, keys_from, with_key}
+use Rattle.presentation.specs.declared.track.Track.{Track}
+use Rattle.audio_groups.specs.Groups.{has_codes_of, is_audio, rendition_at, renditions_from, same_text}
+use Rattle.audio_groups.specs.Keys.{is_same_key, keys_from, with_key}
 use Rattle.laws_of_playlists.proofs.{MasterTypes.{AudioTrack, Key, firsts, same_key}, MasterLists.{all_append, any_kept, any_pushed}}
 use Rattle.laws_of_playlists.proofs.MasterLists.{any_wider, options_decide, placed}
 

@@ -13,7 +13,7 @@ use Rattle.hls_writer.specs.{Lines.{range_bytes, seconds_bytes}, Playlists.{Item
 use Rattle.hls_writer.specs.{Playlists.{own_lines, present, rise}, Spelled.{spelled_item, spelled_items, spelled_part}}
 use Rattle.laws_of_playlists.specs.{ReadLines.{IsReadable, IsUriOrTag, ends_visibly, is_printable}, ReadMedia.IsReadableItem}
 use Rattle.laws_of_playlists.specs.ReadMedia.{IsReadableRange, IsShortDuration, IsShortNumber, Spells}
-use Rattle.laws_of_playlists.proofs.{WrittenLines.weaker, Values.{decimal_is, digits_all}}
+use Rattle.laws_of_playlists.proofs.{LineTexts.plain_ascii, WrittenLines.weaker, Values.{decimal_is, digits_all}}
 
 -- a visible character of ASCII
 abbrev pub is_visible : ℕ → Bool
@@ -36,7 +36,7 @@ ends (b ∷ (c ∷ bs)) all = ends (c ∷ bs) (and_parts (is_visible b) (list_al
 
 pub readable : (line : WrittenLine) → IsVisible (line_bytes line) → IsUriOrTag line → IsReadable line
 readable line visible whole = record {
-  printable = weaker is_visible is_printable printable (line_bytes line) visible;
+  plain = plain_ascii (line_bytes line) (weaker is_visible is_printable printable (line_bytes line) visible);
   ends = ends (line_bytes line) visible;
   whole = whole;
 }

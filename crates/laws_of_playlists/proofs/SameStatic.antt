@@ -45,8 +45,8 @@ part_read part located = record { address = located.address; range = IfSome_then
 
 pub written_means_the_same : StaticAreFinished → StaticTracksAreWritable → StaticInitializationsAreLocated → StaticPartsAreLocated
     → StaticAreInPace → AreShortInPace → WrittenMeanTheSame → WrittenMeansTheSame
-written_means_the_same finished writable initializations parts pace told same p digits files folder prefix place from found verified few own
-    holds spells written =
+written_means_the_same finished writable initializations parts pace told same p digits files folder prefix place players from fit found
+    verified few own holds spells written =
     let contents : All IsReadableContent p.contents = λ k d within. record {
       initialization = part_read _ (initializations p from found k d within);
       parts = λ x part is. part_read part (parts p from found k d within x part is);
@@ -66,4 +66,4 @@ written_means_the_same finished writable initializations parts pace told same p 
         short = short p digits t told (λ s. pace p s t from);
       };
     } in
-    same p digits files folder prefix place readable own holds spells written
+    same p digits files folder prefix place players fit readable own holds spells written

@@ -9,11 +9,13 @@ use Rattle.hls_media.specs.{Media.media_values, declared.media.Media.Media}
 use Rattle.hls_meaning.specs.Meanings.{Source, file_at, hls_meaning, meaning_by, meaning_of_sources, media_at, media_by, source_of}
 use Rattle.hls_meaning.specs.Meanings.{sources_of}
 use Rattle.presentation.specs.{declared.track.Track.Track, Meanings.language_of, Presented.Presented}
-use Rattle.hls_writer.specs.{Attributes.playlist_name, Finished.media_text, Master.master_text}
+use Rattle.hls_writer.specs.{Attributes.playlist_name, Finished.{media_text, targets_of}, Master.master_text}
 use Rattle.laws_of_playlists.specs.{Master.{Head, MasterIsRead, head_at, head_of, heads_from, told_language}, ReadMedia.TracksAreRead}
-use Rattle.laws_of_playlists.specs.{ReadMedia.track_media, Same.{AreReadFrom, ReadMeanTheSame}, SameFiles.{HoldTracks, HoldsFiles}}
+use Rattle.track_hints.specs.declared.hints.Hints.{Hints}
+use Rattle.laws_of_playlists.specs.{ReadMedia.{media_with, track_media}, Same.{AreReadFrom, ReadMeanTheSame}}
+use Rattle.laws_of_playlists.specs.SameFiles.{HoldTracks, HoldsFiles}
 use Rattle.laws_of_playlists.specs.SameFiles.{TracksMeanTheSame, WrittenMeanTheSame, master_name, playlist_under}
-use Rattle.laws_of_playlists.proofs.SameFolders.{file_under, folder_under}
+use Rattle.laws_of_playlists.proofs.{SameFolders.{file_under, folder_under}, TrackPlaylists.all_short}
 
 same_language : (kind : Kind) (language : Option (List ℕ)) → told_language kind language ≡ language_of kind language
 same_language Video language = refl
@@ -27,8 +29,8 @@ some_mapped : {X Y : Type 0} (f : X → Y) (o : Option X) (y : Y) → option_map
 some_mapped f None y is = absurd (cc)
 some_mapped f (Some x) y is = (x, (refl, cc))
 
-module _ (p : Presented) (digits : ℕ) (files : Files) (folder prefix : List ℕ) (holds : HoldsFiles prefix (length p.tracks))
-    (tracks : HoldTracks files folder prefix p digits) where
+module _ (p : Presented) (digits : ℕ) (files : Files) (folder prefix : List ℕ) (players : Option Hints)
+    (holds : HoldsFiles prefix (length p.tracks)) (tracks : HoldTracks files folder prefix players p digits) where
   abbrev IsFound : ℕ → (address : List ℕ) → Type 0
   IsFound t address = (media : Media) × ((media_at files folder address ≡ Some media)
       × (media.segments ≡ (track_media p digits t).segments))
@@ -82,15 +84,15 @@ module _ (p : Presented) (digits : ℕ) (files : Files) (folder prefix : List �
 
 pub tracks_mean_the_same : MasterIsRead → ReadMeanTheSame → TracksMeanTheSame
 unfolding hls_meaning master_text
-tracks_mean_the_same master same p digits files folder prefix writable own holds tracks =
+tracks_mean_the_same master same p digits files folder prefix players fit writable own holds tracks =
     let url : List ℕ = folder ++ (prefix ++ master_name) in
     let under : folder_of url ≡ folder ++ prefix = folder_under folder prefix master_name own holds.folder refl refl in
-    let text : file_at files folder url ≡ Some (master_text p) = file_under files folder (prefix ++ master_name) holds.master
+    let text : file_at files folder url ≡ Some (master_text players p) = file_under files folder (prefix ++ master_name) holds.master
     ∙ tracks.master in
-    let values = some_mapped (λ (values : List TrackValue). map head_of values) (master_values (master_text p) url) _
-    (master p.tracks url writable.tracks) in
+    let values = some_mapped (λ (values : List TrackValue). map head_of values) (master_values (master_text players p) url) _
+    (master players p.tracks url fit writable.tracks) in
     let sources =
-    found_from p digits files folder prefix holds tracks 0 p.tracks values.0 (omega arith) (values.1.1
+    found_from p digits files folder prefix players holds tracks 0 p.tracks values.0 (omega arith) (values.1.1
     ∙ ap (λ base. heads_from base 0 p.tracks) under) in
     let meant : hls_meaning files folder url ≡ Some (meaning_of_sources sources.0) =
     ap (λ found. option_and_then (λ bytes. meaning_by files folder (master_values bytes url)) found) text
@@ -98,16 +100,19 @@ tracks_mean_the_same master same p digits files folder prefix writable own holds
     (meaning_of_sources sources.0, (meant, same p digits sources.0 writable.verified writable.few writable.ordered sources.1.1))
 
 pub written_mean_the_same : TracksMeanTheSame → TracksAreRead → WrittenMeanTheSame
-written_mean_the_same same read p digits files folder prefix place readable own holds spells written =
-    same p digits files folder prefix readable.writable own holds (record {
+written_mean_the_same same read p digits files folder prefix place players fit readable own holds spells written =
+    let targets = targets_of players in
+    let shorts = all_short targets p digits (λ t within. (readable.playlists t within).short) in
+    same p digits files folder prefix players fit readable.writable own holds (record {
       master = written.master;
       playlists = λ t within. record {
-        text = media_text (place t) p digits t;
+        text = media_text (place t) targets p digits t;
         there = written.playlists t within;
         reads = (
-          track_media p digits t,
+          media_with targets p digits t,
           (
-            read (place t) p digits t (playlist_under folder prefix t) (spells t within) within (readable.playlists t within),
+            read (place t) targets p digits t (playlist_under folder prefix t) (spells t within) within (readable.playlists t within)
+                shorts,
             refl,
           ),
         );

@@ -2,6 +2,7 @@
 use Rattle.std.proofs.Common.{◌≡◌, ℕ, zero, suc, ◌+◌, ◌-◌, ◌*◌, ◌/◌, ◌%◌, ◌^◌, ◌<◌, ◌≤◌, Bool, true, false, List, [], ◌∷◌, ◌++◌, length}
 use Rattle.std.proofs.Common.{map, max, flat_map, cond, nat_le, Option, Some, None, Ok, Err, Result, IfSome, refl, sym, ◌∙◌, ap, subst}
 use Rattle.std.proofs.{Common.{arith, inl, inr}, Math.Nat.{div-mul-le_self, one-le-pow}, lemmas.Bool.{cases_Bool, cases_lt}}
+use Rattle.std.proofs.{lemmas.Bool.Decides.nat_tests}
 use Rattle.std.proofs.{lemmas.List.Elements.{All-append, All-cons, All-map, All-nil, All-weaker}, lemmas.Option.get_or_from_slice_get}
 use Rattle.std.proofs.{lemmas.Option.slice_get_within, lemmas.Nat.le-div}
 use Rattle.std.specs.{List.{All, range_with_len, slice_get, slice_index_or}, Option.option_map_or}
@@ -15,8 +16,13 @@ use Rattle.presentation.specs.{Presented.{Presented, content_at, listed_at, list
 use Rattle.presentation.specs.{Printing.{printed_timings, with_durations}, Verifying.{greatest, longest_at, longest_of, url_faults}}
 use Rattle.presentation.specs.Verifying.{verified}
 use Rattle.presentation.proofs.{Allowed.have_addresses, Firsts.none_before, Reached.{none_first, none_within}}
-use Rattle.hls_writer.specs.Finished.{content_items, item_at, items_at, media_text, part_or_none, section_items, target_of, track_items}
+use Rattle.hls_writer.specs.Finished.{content_items, greatest_from, is_text, item_at, items_at, media_text, own_target, part_or_none}
+use Rattle.hls_writer.specs.Finished.{section_items, shared_target, target_in, target_of, track_items}
+use Rattle.hls_writer.specs.declared.finished.{Targets.Targets, Targets.TheVariants.{Own, Shared}}
 use Rattle.hls_writer.specs.Playlists.{Item}
+use Rattle.bridge_io.specs.declared.media.Kind.TheVariants.{Text}
+use Rattle.presentation.specs.{declared.track.Track.Track, Order.is_of}
+use Rattle.laws_of_playlists.specs.ReadMedia.{AreShort, AreShortFor}
 use Rattle.laws_of_playlists.specs.ReadMedia.{AreInOrder, GoOn, IsNext, IsReadableContent, IsReadableItem, IsReadablePart, IsReadableTrack}
 use Rattle.laws_of_playlists.specs.ReadMedia.{IsShortNumber, TracksAreRead, segment_in, segment_of, segments_of}
 use Rattle.laws_of_playlists.proofs.Items.{finished_are_read}
@@ -183,19 +189,53 @@ module _ (p : Presented) (digits t : ℕ) (less : t < length p.tracks) (is : IsR
         same = same_sections digits (items_at content.runs content.initialization 0 printed ++ later);
       })
 
+-- ---- target durations
+
+short_max : (m n : ℕ) → IsShortNumber m → IsShortNumber n → IsShortNumber (max m n)
+short_max m n first second = grind (arith, nat_tests)
+
+module _ (p : Presented) (digits : ℕ) (shorts : (t : ℕ) → t < length p.tracks → AreShort p digits t) where
+  own_short : (t : ℕ) → t < length p.tracks → IsShortNumber (own_target p (10 ^ digits) t)
+  own_short t less = target_short (10 ^ digits) (longest_of p (10 ^ digits) t) (shorts t less)
+
+  greatest_short : (most place : ℕ) (tracks : List Track) → place + length tracks ≤ length p.tracks → IsShortNumber most
+      → IsShortNumber (greatest_from (own_target p (10 ^ digits)) most place tracks)
+  greatest_short most place [] few so_far = so_far
+  greatest_short most place (track ∷ tracks) few so_far = elim (cases_Bool (is_of Text track.kind)) [
+    | inl is ↦ rw is (greatest_short most (place + 1) tracks (omega (arith, few)) so_far)
+    | inr isnt ↦ rw isnt (greatest_short (max most (own_target p (10 ^ digits) place)) (place + 1) tracks (omega (arith, few))
+        (short_max most (own_target p (10 ^ digits) place) so_far (own_short place (omega (arith, few)))))
+  ]
+
+  shared_short : IsShortNumber (shared_target p (10 ^ digits))
+  shared_short = greatest_short 0 0 p.tracks (omega arith) (omega arith)
+
+targets_short : (targets : Targets) (p : Presented) (digits t : ℕ) → t < length p.tracks → AreShort p digits t
+    → AreShortFor targets p digits → IsShortNumber (target_in targets p (10 ^ digits) t)
+targets_short Own p digits t less short shorts = target_short (10 ^ digits) (longest_of p (10 ^ digits) t) short
+targets_short Shared p digits t less short shorts = elim (cases_Bool (is_text p.tracks t)) [
+  | inl is ↦ rw is (own_short p digits shorts t less)
+  | inr isnt ↦ rw isnt (shared_short p digits shorts)
+]
+
+pub all_short : (targets : Targets) (p : Presented) (digits : ℕ) → ((t : ℕ) → t < length p.tracks → AreShort p digits t)
+    → AreShortFor targets p digits
+all_short Own p digits shorts = tt
+all_short Shared p digits shorts = shorts
+
 pub tracks_are_read : TracksAreRead
 unfolding media_text
-tracks_are_read place p digits t url spells less is =
+tracks_are_read place targets p digits t url spells less is shorts =
     let unit = 10 ^ digits in
     let list = track_list p digits t less is (length p.sections) refl in
-    let read = finished_are_read place (target_of unit (longest_of p unit t)) digits (track_items p unit t) url spells
-    (target_short unit (longest_of p unit t) is.short)
+    let read = finished_are_read place (target_in targets p unit t) digits (track_items p unit t) url spells
+    (targets_short targets p digits t less is.short shorts)
     (record { few = is.few; each = sections_readable p digits t less is 0 (length p.sections) (omega arith); order = list.order }) in (
       read.0,
       (
         read.1.0,
         read.1.1 ∙ ap (λ segments. record {
-          target = target_of unit (longest_of p unit t);
+          target = target_in targets p unit t;
           sequence = 0;
           ended = true;
           segments = segments;

@@ -1,25 +1,31 @@
 -- Written lines are read as they were written.
 use Rattle.hls_lines.specs.Lines as said
-use Rattle.std.proofs.Common.{◌≡◌, ℕ, suc, ◌-◌, ◌<◌, ◌||◌, Bool, true, false, not, List, [], ◌∷◌, ◌++◌, length, take, reverse, eqb, nat_eq}
-use Rattle.std.proofs.{Common.{codes, Some, None, Ok, refl, ◌∙◌, ap, arith, inl, inr, append_assoc}, lemmas.Bool.{and_from, and_parts}}
-use Rattle.std.proofs.{lemmas.Bool.{le-ltb, not-true}, lemmas.Bool.Decides.nat_tests, lemmas.List.{reverse-append, take_all}}
-use Rattle.std.proofs.{lemmas.List.Elements.{All-cons, All-head, All-nil, All-tail}, lemmas.List.Folds.list_all-append}
-use Rattle.std.proofs.{lemmas.List.Splits.slice_split_at, lemmas.Str.{IsUtf8-from_ascii, is_utf8-from_IsUtf8}}
+use Rattle.std.proofs.Common.{◌≡◌, ℕ, suc, ◌-◌, ◌&&◌, ◌||◌, Bool, true, false, not, List, [], ◌∷◌, ◌++◌, length, take, reverse, eqb, nat_eq}
+use Rattle.std.proofs.Common.{codes, Some, None, Ok, refl, sym, ◌∙◌, ap, subst, arith, inl, inr, append_assoc}
+use Rattle.std.proofs.lemmas.Bool.{and_from, and_parts}
+use Rattle.std.proofs.{lemmas.Bool.{le-ltb, not-true, or_from, or_parts}, lemmas.Bool.Decides.nat_tests}
+use Rattle.std.proofs.{lemmas.List.{reverse-append, take_all}, lemmas.List.Elements.{All-cons, All-head, All-nil, All-tail}}
+use Rattle.std.proofs.lemmas.List.Splits.{slice_split_at}
+use Rattle.std.proofs.lemmas.Str.{IsUtf8-append, IsUtf8-from_ascii, IsUtf8-nil, is_utf8-from_IsUtf8}
 use Rattle.std.proofs.lemmas.Str.Ascii.{IsAscii-cons, IsAscii-nil}
-use Rattle.std.specs.{List.{All, list_any, list_all, position_or_len, prefix_len, slice_split, starts_with, suffix_len}, Str.IsAscii}
-use Rattle.std.specs.Prelude.{decimal}
+use Rattle.std.specs.{List.{All, list_any, list_all, position_or_len, prefix_len, slice_split, starts_with, suffix_len}, Str.IsUtf8}
+use Rattle.std.specs.Prelude.{decimal, nat_le, nat_lt}
 use Rattle.byte_scan.specs.{Class.is_outside, declared.class.Class.TheVariants.Playlist, Lines.is_line_feed}
 use Rattle.bridge_io.specs.declared.place.Place.{Place}
 use Rattle.hls_lines.specs.{Characters.{begins_with_high_control, first_control, high_control_from}, LineGrammar.EndsUnblank, Lines.behind}
 use Rattle.hls_lines.specs.Lines.{clean, has_header, is_blank, is_colon, line_of, lines_of, said_from, start, trimmed, with_line}
 use Rattle.hls_lines.proofs.AttributeTexts.{parts_there}
+use Rattle.track_hints.specs.Labels.{begins_with_control, has_control, is_high_control}
 use Rattle.hls_writer.specs.{Attributes.attributes_bytes, Lines.{WrittenLine, header, version, target_duration, media_sequence}}
-use Rattle.hls_writer.specs.Lines.{discontinuity_sequence, on_demand, discontinuity, initialization, program_date_time, duration}
-use Rattle.hls_writer.specs.Lines.{byte_range, uri, end_list, rendition, variant, line_bytes, lines_text, range_bytes, seconds_bytes}
+use Rattle.hls_writer.specs.Lines.{independent_segments, discontinuity_sequence, on_demand, discontinuity, initialization}
+use Rattle.hls_writer.specs.Lines.{program_date_time}
+use Rattle.hls_writer.specs.Lines.{duration, byte_range, uri, end_list, rendition, variant, line_bytes, lines_text, range_bytes}
+use Rattle.hls_writer.specs.Lines.{seconds_bytes}
 use Rattle.iso_time.specs.Civil.{instant_text}
-use Rattle.laws_of_playlists.specs.ReadLines.{IsReadable, IsUriOrTag, WrittenLinesAreRead, ends_visibly, is_printable}
+use Rattle.laws_of_playlists.specs.ReadLines.{IsReadable, IsUriOrTag, WrittenLinesAreRead, ends_visibly}
 use Rattle.url_parts.specs.Spelling.{begins_uri}
 use Rattle.laws_of_playlists.specs.ReadLines.{map_bytes, said_at, said_from_place}
+use Rattle.laws_of_playlists.proofs.LineTexts.{plain_ascii}
 
 -- ---- tests of each byte
 
@@ -43,6 +49,7 @@ uri_is (b ∷ bs) place begins = let other : eqb b 35 ≡ false = not-true (eqb 
 says : (line : WrittenLine) (place : Place) → IsUriOrTag line → line_of (line_bytes line) place ≡ Some (said_at line place)
 unfolding line_bytes
 says header place whole = refl
+says independent_segments place whole = refl
 says (version number) place whole = tag_is (codes "EXT-X-VERSION") (decimal number) place refl refl
 says (target_duration seconds) place whole = tag_is (codes "EXT-X-TARGETDURATION") (decimal seconds) place refl refl
 says (media_sequence number) place whole = tag_is (codes "EXT-X-MEDIA-SEQUENCE") (decimal number) place refl refl
@@ -60,13 +67,15 @@ says (variant first others) place whole = tag_is (codes "EXT-X-STREAM-INF") (att
 
 -- ---- lines without blanks at their ends
 
-unblank : (b : ℕ) → is_printable b ≡ true → not (eqb b 32) ≡ true → is_blank b ≡ false
-unblank b printable other = grind (arith, nat_tests)
+unblank : (b : ℕ) (high : Bool) → (nat_lt b 32 || (eqb b 127 || eqb b 194 && high)) ≡ false → not (eqb b 32) ≡ true → is_blank b ≡ false
+unblank b high free other = grind (arith, nat_tests)
 
-ends_unblank : (line : List ℕ) → list_all is_printable line ≡ true → ends_visibly line ≡ true → EndsUnblank line
-ends_unblank [] all ends = inl refl
-ends_unblank (b ∷ []) all ends = inr ([], (b, (refl, unblank b (and_parts (is_printable b) true all).0 ends)))
-ends_unblank (b ∷ (c ∷ bs)) all ends = more (ends_unblank (c ∷ bs) (and_parts (is_printable b) (list_all is_printable (c ∷ bs)) all).1 ends)
+ends_unblank : (line : List ℕ) → has_control line ≡ false → ends_visibly line ≡ true → EndsUnblank line
+ends_unblank [] free ends = inl refl
+ends_unblank (b ∷ []) free ends =
+    inr ([], (b, (refl, unblank b false (or_parts (begins_with_control b []) false free).0 ends)))
+ends_unblank (b ∷ (c ∷ bs)) free ends =
+    more (ends_unblank (c ∷ bs) (or_parts (begins_with_control b (c ∷ bs)) (has_control (c ∷ bs)) free).1 ends)
   where
     more : EndsUnblank (c ∷ bs) → EndsUnblank (b ∷ (c ∷ bs))
     more (inl never) = absurd (cc)
@@ -79,13 +88,13 @@ trimmed_is line (inr (front, (last, (e, other)))) =
     ∙ ap (prefix_len is_blank) (reverse-append front (last ∷ [])) ∙ rw other refl in
     ap (λ n. take (length line - n) line) none ∙ take_all (length line - 0) line (omega arith)
 
-not_feed : (b : ℕ) → is_printable b ≡ true → is_line_feed b ≡ false
-not_feed b printable = grind (arith, nat_tests)
+not_feed : (b : ℕ) (high : Bool) → (nat_lt b 32 || (eqb b 127 || eqb b 194 && high)) ≡ false → is_line_feed b ≡ false
+not_feed b high free = grind (arith, nat_tests)
 
-no_feed : (line : List ℕ) → list_all is_printable line ≡ true → All (λ b. is_line_feed b ≡ false) line
-no_feed [] all = All-nil (λ (b : ℕ). is_line_feed b ≡ false)
-no_feed (b ∷ bs) all = let parts = and_parts (is_printable b) (list_all is_printable bs) all in
-    All-cons (λ (b : ℕ). is_line_feed b ≡ false) b bs (not_feed b parts.0) (no_feed bs parts.1)
+no_feed : (line : List ℕ) → has_control line ≡ false → All (λ b. is_line_feed b ≡ false) line
+no_feed [] free = All-nil (λ (b : ℕ). is_line_feed b ≡ false)
+no_feed (b ∷ bs) free = let parts = or_parts (begins_with_control b bs) (has_control bs) free in
+    All-cons (λ (b : ℕ). is_line_feed b ≡ false) b bs (not_feed b (is_high_control bs) parts.0) (no_feed bs parts.1)
 
 said_lines : (place : Place) (lines : List WrittenLine) → All IsReadable lines
     → said_from place (slice_split is_line_feed (lines_text lines)) ≡ said_from_place place lines
@@ -93,60 +102,72 @@ said_lines place [] all = refl
 said_lines place (line ∷ lines) all =
     let is = All-head IsReadable line lines all in
     let bytes = line_bytes line in
-    let here = ap (λ text. line_of text place) (trimmed_is bytes (ends_unblank bytes is.printable is.ends)) ∙ says line place is.whole in
+    let here = ap (λ text. line_of text place) (trimmed_is bytes (ends_unblank bytes is.plain.free is.ends)) ∙ says line place is.whole in
     ap (λ text. said_from place (slice_split is_line_feed text)) (append_assoc bytes (10 ∷ []) (lines_text lines))
-    ∙ ap (said_from place) (slice_split_at is_line_feed bytes 10 (lines_text lines) (no_feed bytes is.printable) refl)
+    ∙ ap (said_from place) (slice_split_at is_line_feed bytes 10 (lines_text lines) (no_feed bytes is.plain.free) refl)
     ∙ ap (λ what. with_line what (said_from (behind bytes place) (slice_split is_line_feed (lines_text lines)))) here
     ∙ ap (λ others. said_at line place ∷ others) (said_lines (behind bytes place) lines (All-tail IsReadable line lines all))
 
--- ---- a text of printable bytes and LF is clean
+-- ---- a text of such lines is clean
 
-abbrev is_plain : ℕ → Bool
-is_plain b = is_printable b || is_line_feed b
+-- no byte and no pair of bytes is a control character that ends the reading
+abbrev is_bad : ℕ → List ℕ → Bool
+is_bad b bs = is_outside Playlist b || begins_with_high_control (b ∷ bs)
 
-printable_plain : (b : ℕ) → is_printable b ≡ true → is_plain b ≡ true
-printable_plain b printable = rw printable refl
+abbrev has_bad : List ℕ → Bool
+has_bad [] = false
+has_bad (b ∷ bs) = is_bad b bs || has_bad bs
 
-plain_lines : (lines : List WrittenLine) → All IsReadable lines → list_all is_plain (lines_text lines) ≡ true
-plain_lines [] all = refl
-plain_lines (line ∷ lines) all =
-    let is = All-head IsReadable line lines all in
-    rw (
-      list_all-append is_plain (line_bytes line ++ 10 ∷ []) (lines_text lines),
-      list_all-append is_plain (line_bytes line) (10 ∷ []),
-      weaker is_printable is_plain printable_plain (line_bytes line) is.printable,
-    )
-    (plain_lines lines (All-tail IsReadable line lines all))
+kept_good : (b c : ℕ) → (nat_lt b 32 || (eqb b 127 || eqb b 194 && (nat_le 128 c && nat_le c 159))) ≡ false
+    → (is_outside Playlist b || eqb b 194 && nat_le 128 c && nat_le c 159) ≡ false
+kept_good b c free = grind (arith, nat_tests)
 
-ascii : (bytes : List ℕ) → list_all is_plain bytes ≡ true → IsAscii bytes
-ascii [] all = IsAscii-nil
-ascii (b ∷ bs) all = let parts = and_parts (is_plain b) (list_all is_plain bs) all in
-    IsAscii-cons b bs (below b parts.0) (ascii bs parts.1)
-  where
-    below : (b : ℕ) → is_plain b ≡ true → b < 128
-    below b plain = grind (arith, nat_tests)
+last_good : (b : ℕ) → (nat_lt b 32 || (eqb b 127 || eqb b 194 && false)) ≡ false
+    → (is_outside Playlist b || eqb b 194 && nat_le 128 10 && nat_le 10 159) ≡ false
+last_good b free = grind (arith, nat_tests)
 
-low : (b : ℕ) → is_plain b ≡ true → is_outside Playlist b ≡ false
-low b plain = grind (arith, nat_tests)
+feed_good : (rest : List ℕ) → is_bad 10 rest ≡ false
+feed_good [] = refl
+feed_good (b ∷ rest) = refl
 
-high : (b : ℕ) → is_plain b ≡ true → eqb b 194 ≡ false
-high b plain = grind (arith, nat_tests)
+line_good : (line rest : List ℕ) → has_control line ≡ false → has_bad rest ≡ false → has_bad (line ++ 10 ∷ rest) ≡ false
+line_good [] rest free good = or_from (is_bad 10 rest) (has_bad rest) (feed_good rest) good
+line_good (b ∷ []) rest free good = let parts = or_parts (begins_with_control b []) false free in
+    or_from (is_bad b (10 ∷ rest)) (has_bad (10 ∷ rest)) (last_good b parts.0)
+    (or_from (is_bad 10 rest) (has_bad rest) (feed_good rest) good)
+line_good (b ∷ (c ∷ bs)) rest free good = let parts = or_parts (begins_with_control b (c ∷ bs)) (has_control (c ∷ bs)) free in
+    or_from (is_bad b (c ∷ (bs ++ 10 ∷ rest))) (has_bad (c ∷ (bs ++ 10 ∷ rest))) (kept_good b c parts.0)
+    (line_good (c ∷ bs) rest parts.1 good)
 
-no_low : (bytes : List ℕ) → list_all is_plain bytes ≡ true → position_or_len (is_outside Playlist) bytes ≡ length bytes
-no_low [] all = refl
-no_low (b ∷ bs) all = let parts = and_parts (is_plain b) (list_all is_plain bs) all in rw (low b parts.0) (omega (arith, no_low bs parts.1))
+lines_good : (lines : List WrittenLine) → All IsReadable lines → has_bad (lines_text lines) ≡ false
+lines_good [] all = refl
+lines_good (line ∷ lines) all = let is = All-head IsReadable line lines all in
+    subst (λ (text : List ℕ). has_bad text ≡ false) (sym (append_assoc (line_bytes line) (10 ∷ []) (lines_text lines)))
+    (line_good (line_bytes line) (lines_text lines) is.plain.free (lines_good lines (All-tail IsReadable line lines all)))
 
-begins_low : (b : ℕ) (bs : List ℕ) → is_plain b ≡ true → begins_with_high_control (b ∷ bs) ≡ false
-begins_low b [] plain = refl
-begins_low b (c ∷ bs) plain = rw (high b plain) refl
+lines_utf8 : (lines : List WrittenLine) → All IsReadable lines → IsUtf8 (lines_text lines)
+lines_utf8 [] all = IsUtf8-nil
+lines_utf8 (line ∷ lines) all = let is = All-head IsReadable line lines all in
+    IsUtf8-append (line_bytes line ++ 10 ∷ []) (lines_text lines)
+    (IsUtf8-append (line_bytes line) (10 ∷ []) is.plain.utf8 (IsUtf8-from_ascii (10 ∷ []) (IsAscii-cons 10 [] (omega arith) IsAscii-nil)))
+    (lines_utf8 lines (All-tail IsReadable line lines all))
 
-no_high : (at : ℕ) (bytes : List ℕ) → list_all is_plain bytes ≡ true → high_control_from at bytes ≡ None
-no_high at [] all = refl
-no_high at (b ∷ bs) all = let parts = and_parts (is_plain b) (list_all is_plain bs) all in
-    rw (begins_low b bs parts.0) (no_high (suc at) bs parts.1)
+no_low : (bytes : List ℕ) → has_bad bytes ≡ false → position_or_len (is_outside Playlist) bytes ≡ length bytes
+no_low [] good = refl
+no_low (b ∷ bs) good =
+    let parts = or_parts (is_bad b bs) (has_bad bs) good in
+    let one = or_parts (is_outside Playlist b) (begins_with_high_control (b ∷ bs)) parts.0 in
+    rw one.0 (omega (arith, no_low bs parts.1))
 
-no_control : (bytes : List ℕ) → list_all is_plain bytes ≡ true → first_control bytes ≡ None
-no_control bytes all = rw (no_low bytes all, le-ltb (length bytes) (length bytes) (omega arith), no_high 0 bytes all) refl
+no_high : (at : ℕ) (bytes : List ℕ) → has_bad bytes ≡ false → high_control_from at bytes ≡ None
+no_high at [] good = refl
+no_high at (b ∷ bs) good =
+    let parts = or_parts (is_bad b bs) (has_bad bs) good in
+    let one = or_parts (is_outside Playlist b) (begins_with_high_control (b ∷ bs)) parts.0 in
+    rw one.1 (no_high (suc at) bs parts.1)
+
+no_control : (bytes : List ℕ) → has_bad bytes ≡ false → first_control bytes ≡ None
+no_control bytes good = rw (no_low bytes good, le-ltb (length bytes) (length bytes) (omega arith), no_high 0 bytes good) refl
 
 -- ---- the law
 
@@ -156,13 +177,16 @@ headed lines = refl
 
 header_readable : IsReadable header
 unfolding line_bytes
-header_readable = record { printable = refl; ends = refl; whole = tt }
+header_readable = record { plain = plain_ascii (codes "#EXTM3U") refl; ends = refl; whole = tt }
 
 pub written_are_read : WrittenLinesAreRead
 unfolding lines_of clean
 written_are_read lines all =
     let whole = All-cons IsReadable header lines header_readable all in
-    let plain = plain_lines (header ∷ lines) whole in
     let bytes = lines_text (header ∷ lines) in
-    rw (is_utf8-from_IsUtf8 bytes (IsUtf8-from_ascii bytes (ascii bytes plain)), no_control bytes plain, headed lines)
+    rw (
+      is_utf8-from_IsUtf8 bytes (lines_utf8 (header ∷ lines) whole),
+      no_control bytes (lines_good (header ∷ lines) whole),
+      headed lines,
+    )
     (ap Ok (said_lines start (header ∷ lines) whole))

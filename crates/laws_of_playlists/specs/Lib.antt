@@ -3,6 +3,7 @@ pub mod IndexOrigins
 pub mod IndexWritten
 pub mod Master
 pub mod Origins
+pub mod Players
 pub mod ReadLines
 pub mod ReadMedia
 pub mod Same

@@ -1,12 +1,13 @@
 -- What written lines are read as (RFC 8216, 4.1).
 use Rattle.hls_lines.specs.Lines as said
-use Rattle.std.specs.Prelude.{◌≡◌, ℕ, ◌==◌, ◌&&◌, not, nat_le, Bool, true, ⊤, List, [], ◌∷◌, ◌++◌, codes, decimal, All, Ok}
-use Rattle.std.specs.List.{list_all}
+use Rattle.std.specs.Prelude.{IsUtf8, ◌≡◌, ℕ, ◌==◌, ◌&&◌, not, nat_le, Bool, true, false, ⊤, List, [], ◌∷◌, ◌++◌, codes, decimal, All, Ok}
 use Rattle.bridge_io.specs.declared.place.Place.{Place}
 use Rattle.iso_time.specs.{Civil.instant_text, Digits.optional_text}
 use Rattle.url_parts.specs.{Spelling.begins_uri, declared.address.Part.Part}
 use Rattle.hls_lines.specs.Lines.{PlaylistLine, behind, lines_of, start}
+use Rattle.track_hints.specs.Labels.{has_control}
 use Rattle.hls_writer.specs.{Attributes.attributes_bytes, Lines.{WrittenLine, header, version, target_duration, media_sequence}}
+use Rattle.hls_writer.specs.Lines.{independent_segments}
 use Rattle.hls_writer.specs.Lines.{discontinuity_sequence, on_demand, discontinuity, initialization, program_date_time, duration}
 use Rattle.hls_writer.specs.Lines.{byte_range, uri, end_list, rendition, variant, line_bytes, lines_text, range_attribute, range_bytes}
 use Rattle.hls_writer.specs.Lines.{seconds_bytes}
@@ -16,6 +17,11 @@ use Rattle.hls_writer.specs.Lines.{seconds_bytes}
 -- a space or a visible character of ASCII
 abbrev pub is_printable : ℕ → Bool
 is_printable b = nat_le 32 b && nat_le b 126
+
+-- UTF-8 without control characters (RFC 8216, 4.1)
+pub record IsPlain (text : List ℕ) : Type 0 where
+  pub utf8 : IsUtf8 text
+  pub free : has_control text ≡ false
 
 -- a text doesn't end with a space
 abbrev pub ends_visibly : List ℕ → Bool
@@ -28,7 +34,7 @@ IsUriOrTag (uri address) = begins_uri address ≡ true
 IsUriOrTag _ = ⊤
 
 pub record IsReadable (line : WrittenLine) : Type 0 where
-  pub printable : list_all is_printable (line_bytes line) ≡ true
+  pub plain : IsPlain (line_bytes line)
   pub ends : ends_visibly (line_bytes line) ≡ true
   pub whole : IsUriOrTag line
 
@@ -42,6 +48,7 @@ map_bytes part = codes "URI=\"" ++ part.address ++ codes "\"" ++ optional_text r
 abbrev pub said_at : WrittenLine → Place → PlaylistLine
 said_at header place = said.tag (codes "EXTM3U") [] place
 said_at (version number) place = said.tag (codes "EXT-X-VERSION") (decimal number) place
+said_at independent_segments place = said.tag (codes "EXT-X-INDEPENDENT-SEGMENTS") [] place
 said_at (target_duration seconds) place = said.tag (codes "EXT-X-TARGETDURATION") (decimal seconds) place
 said_at (media_sequence number) place = said.tag (codes "EXT-X-MEDIA-SEQUENCE") (decimal number) place
 said_at (discontinuity_sequence number) place = said.tag (codes "EXT-X-DISCONTINUITY-SEQUENCE") (decimal number) place

@@ -8,7 +8,9 @@ use Rattle.presentation.specs.{declared.parts.Content.Content, Presented.{Presen
 use Rattle.hls_lines.specs.Lines.{PlaylistLine, lines_of}
 use Rattle.hls_media.specs.{Media.{map_value, media_values}, Values.{duration_of, number_of, range_from}, declared.media.Media.Media}
 use Rattle.hls_media.specs.declared.media.MediaSegment.{MediaSegment}
-use Rattle.hls_writer.specs.{Finished.{media_text, target_of, track_items}, Lines.{range_bytes, seconds_bytes}, Playlists.{Head, Item}}
+use Rattle.hls_writer.specs.declared.finished.{Targets.Targets, Targets.TheVariants.{Own, Shared}}
+use Rattle.hls_writer.specs.{Finished.{media_text, target_in, target_of, track_items}, Lines.{range_bytes, seconds_bytes}}
+use Rattle.hls_writer.specs.Playlists.{Head, Item}
 use Rattle.hls_writer.specs.{Playlists.{finished_text, followed_text}, Spelled.spelled_items, Verified.IsVerified}
 use Rattle.laws_of_playlists.specs.ReadLines.{map_bytes}
 
@@ -143,7 +145,7 @@ pub record IsReadableContent (content : Content) : Type 0 where
   pub initialization : IsReadablePart content.initialization
   pub parts : (x : Timing) (part : Part) → part_of_timing content.runs x ≡ Ok part → IsReadablePart part
 
--- a track's playlist with the segments of each section in order
+-- a track's playlist with the segments of each section in order, and with a target duration of its own
 abbrev pub track_media : Presented → (digits track : ℕ) → Media
 track_media p digits track = record {
   target = target_of (10 ^ digits) (longest_of p (10 ^ digits) track);
@@ -163,7 +165,16 @@ pub record IsReadableTrack (p : Presented) (digits track : ℕ) : Type 0 where
   pub contents : All IsReadableContent p.contents
   pub short : AreShort p digits track
 
+-- So have those of all tracks, where they share a target.
+abbrev pub AreShortFor : Targets → Presented → (digits : ℕ) → Type 0
+AreShortFor Own p digits = ⊤
+AreShortFor Shared p digits = (t : ℕ) → t < length p.tracks → AreShort p digits t
+
+-- a track's playlist with its target duration
+abbrev pub media_with : Targets → Presented → (digits track : ℕ) → Media
+media_with targets p digits track = record (track_media p digits track) { target = target_in targets p (10 ^ digits) track }
+
 abbrev pub TracksAreRead : Type 0
-TracksAreRead = (place : Option PlaylistPlace) (p : Presented) (digits track : ℕ) (url : List ℕ) → Spells place url
-    → track < length p.tracks → IsReadableTrack p digits track
-    → ReadsAs (media_text place p digits track) url (track_media p digits track)
+TracksAreRead = (place : Option PlaylistPlace) (targets : Targets) (p : Presented) (digits track : ℕ) (url : List ℕ) → Spells place url
+    → track < length p.tracks → IsReadableTrack p digits track → AreShortFor targets p digits
+    → ReadsAs (media_text place targets p digits track) url (media_with targets p digits track)

@@ -6,8 +6,10 @@ use Rattle.hls_media.specs.{declared.media.Media.Media, declared.media.MediaSegm
 use Rattle.hls_meaning.specs.Meanings.{hls_meaning}
 use Rattle.meaning.specs.{Meanings.Meaning, Same.SameFloor}
 use Rattle.presentation.specs.{Meanings.meaning_of, Presented.Presented}
-use Rattle.hls_writer.specs.{Attributes.playlist_name, Finished.media_text, Master.master_text, Verified.IsVerified}
-use Rattle.laws_of_playlists.specs.{ReadMedia.{IsReadableTrack, ReadsAs, Spells, track_media}, Same.SegmentsEndInTurn, Tracks.AreWritable}
+use Rattle.track_hints.specs.declared.hints.Hints.{Hints}
+use Rattle.hls_writer.specs.{Attributes.playlist_name, Finished.{media_text, targets_of}, Master.master_text, Verified.IsVerified}
+use Rattle.laws_of_playlists.specs.{Master.IsFitFor, ReadMedia.{IsReadableTrack, ReadsAs, Spells, track_media}, Same.SegmentsEndInTurn}
+use Rattle.laws_of_playlists.specs.{Tracks.AreWritable}
 
 abbrev pub master_name : List ℕ
 master_name = codes "master.m3u8"
@@ -26,10 +28,12 @@ playlist_under folder prefix t = folder ++ (prefix ++ playlist_name t)
 abbrev pub AreSpelled : (place : ℕ → Option PlaylistPlace) (folder prefix : List ℕ) (tracks : ℕ) → Type 0
 AreSpelled place folder prefix tracks = (t : ℕ) → t < tracks → Spells (place t) (playlist_under folder prefix t)
 
--- a presentation's master playlist, and beside it the media playlist of each track with its spelling
-pub record AreWritten (files : Files) (prefix : List ℕ) (place : ℕ → Option PlaylistPlace) (p : Presented) (digits : ℕ) : Type 0 where
-  pub master : files (prefix ++ master_name) ≡ Some (master_text p)
-  pub playlists : (t : ℕ) → t < length p.tracks → files (prefix ++ playlist_name t) ≡ Some (media_text (place t) p digits t)
+-- a presentation's master playlist, plain or for players, and beside it the media playlist of each track with its spelling
+pub record AreWritten (files : Files) (prefix : List ℕ) (place : ℕ → Option PlaylistPlace) (players : Option Hints) (p : Presented)
+    (digits : ℕ) : Type 0 where
+  pub master : files (prefix ++ master_name) ≡ Some (master_text players p)
+  pub playlists : (t : ℕ) → t < length p.tracks
+      → files (prefix ++ playlist_name t) ≡ Some (media_text (place t) (targets_of players) p digits t)
 
 -- a folder of a store with its `/`, in which these are names
 abbrev pub FoldersHoldFiles : Type 0
@@ -61,15 +65,16 @@ pub record IsPlaylistOf (files : Files) (name url : List ℕ) (segments : List M
   pub reads : (media : Media) × (ReadsAs text url media × (media.segments ≡ segments))
 
 -- a presentation's master playlist, and beside it a media playlist with the segments of each track
-pub record HoldTracks (files : Files) (folder prefix : List ℕ) (p : Presented) (digits : ℕ) : Type 0 where
-  pub master : files (prefix ++ master_name) ≡ Some (master_text p)
+pub record HoldTracks (files : Files) (folder prefix : List ℕ) (players : Option Hints) (p : Presented) (digits : ℕ) : Type 0 where
+  pub master : files (prefix ++ master_name) ≡ Some (master_text players p)
   pub playlists : (t : ℕ) → t < length p.tracks
       → IsPlaylistOf files (prefix ++ playlist_name t) (playlist_under folder prefix t) (track_media p digits t).segments
 
 -- these files mean what the presentation means
 abbrev pub TracksMeanTheSame : Type 0
-TracksMeanTheSame = (p : Presented) (digits : ℕ) (files : Files) (folder prefix : List ℕ) → IsWritable p digits → folder_of folder ≡ folder
-    → HoldsFiles prefix (length p.tracks) → HoldTracks files folder prefix p digits
+TracksMeanTheSame = (p : Presented) (digits : ℕ) (files : Files) (folder prefix : List ℕ) (players : Option Hints) → IsFitFor players
+    → IsWritable p digits → folder_of folder ≡ folder → HoldsFiles prefix (length p.tracks)
+    → HoldTracks files folder prefix players p digits
     → MeanTheSame files folder (folder ++ (prefix ++ master_name)) p digits
 
 -- ---- VOD presentations
@@ -77,6 +82,6 @@ TracksMeanTheSame = (p : Presented) (digits : ℕ) (files : Files) (folder prefi
 -- what is written for a presentation means what it means
 abbrev pub WrittenMeanTheSame : Type 0
 WrittenMeanTheSame = (p : Presented) (digits : ℕ) (files : Files) (folder prefix : List ℕ) (place : ℕ → Option PlaylistPlace)
-    → IsReadable p digits → folder_of folder ≡ folder → HoldsFiles prefix (length p.tracks)
-    → AreSpelled place folder prefix (length p.tracks) → AreWritten files prefix place p digits
+    (players : Option Hints) → IsFitFor players → IsReadable p digits → folder_of folder ≡ folder → HoldsFiles prefix (length p.tracks)
+    → AreSpelled place folder prefix (length p.tracks) → AreWritten files prefix place players p digits
     → MeanTheSame files folder (folder ++ (prefix ++ master_name)) p digits

@@ -4,14 +4,16 @@ use Rattle.bridge_io.specs.Outside.{Files}
 use Rattle.url_parts.specs.{Addresses.folder_of, Spelling.PlaylistPlace}
 use Rattle.presentation.specs.Presented.{Presented}
 use Rattle.mpd_presentation.specs.Origins.{CameFromStaticMpd}
+use Rattle.track_hints.specs.declared.hints.Hints.{Hints}
 use Rattle.hls_writer.specs.Verified.{IsVerified}
-use Rattle.laws_of_playlists.specs.{Origins.IsFound, SameFiles.{AreSpelled, AreWritten, HoldsFiles, MeanTheSame, master_name}}
+use Rattle.laws_of_playlists.specs.{Master.IsFitFor, Origins.IsFound}
+use Rattle.laws_of_playlists.specs.SameFiles.{AreSpelled, AreWritten, HoldsFiles, MeanTheSame, master_name}
 
 -- The playlists that are written for a static MPD mean what its presentation means, with each time rounded down to the unit
 -- that durations are written in.
 abbrev pub WrittenMeansTheSame : Type 0
 WrittenMeansTheSame = (p : Presented) (digits : ℕ) (files : Files) (folder prefix : List ℕ) (place : ℕ → Option PlaylistPlace)
-    (from : CameFromStaticMpd p) → IsFound from.tree from.url → IsVerified p digits → digits ≤ 9
+    (players : Option Hints) (from : CameFromStaticMpd p) → IsFitFor players → IsFound from.tree from.url → IsVerified p digits → digits ≤ 9
     → folder_of folder ≡ folder → HoldsFiles prefix (length p.tracks) → AreSpelled place folder prefix (length p.tracks)
-    → AreWritten files prefix place p digits
+    → AreWritten files prefix place players p digits
     → MeanTheSame files folder (folder ++ (prefix ++ master_name)) p digits

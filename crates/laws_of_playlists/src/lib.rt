@@ -7,6 +7,7 @@ mod lines;
 mod master;
 mod media;
 mod origins;
+mod players;
 mod same;
 
 pub use indexes::{
@@ -21,6 +22,10 @@ pub use origins::{
     counted_segments_are_in_pace, indexed_tracks_are_writable, indexes_are_told, parts_are_located,
     read_trees_are_of_bytes, static_parts_are_located, static_segments_are_in_pace,
     static_tracks_are_writable, tracks_are_writable,
+};
+pub use players::{
+    defaults_are_single, groups_are_of_one_family, no_track_is_missing, targets_are_shared,
+    variants_tell_their_codes,
 };
 pub use same::{
     read_playlists_mean_the_same, tracks_mean_the_same, written_means_the_same,

@@ -24,7 +24,7 @@ pub fn playlists_are_read_again()
 {}
 
 /// The playlist of a track of a VOD presentation that `verify` accepts is read back as the segments of the track, section
-/// by section, with their printed durations.
+/// by section, with their printed durations, and with its target duration: its own, or the one that video and audio share.
 pub fn track_playlists_are_read_again()
     ensures { TracksAreRead }
 {}

@@ -23,8 +23,9 @@ pub fn read_playlists_mean_the_same()
     presentations_mean_what_they_list();
 }
 
-/// Files with the text of a presentation's master playlist, and for each track a playlist with its segments, mean what the
-/// presentation means, with each time rounded down, whatever else the playlists contain. A folder of a store can hold them.
+/// Files with the text of a presentation's master playlist, plain or for players, and for each track a playlist with its
+/// segments, mean what the presentation means, with each time rounded down, whatever else the playlists contain. A folder of a
+/// store can hold them.
 pub fn tracks_mean_the_same()
     ensures files { TracksMeanTheSame }
     ensures folders { FoldersHoldFiles }

@@ -114,7 +114,7 @@ module _ (differ : PeriodIdsDiffer) (periods : SectionsArePeriods) (begins : His
     (writable : TracksAreWritable) (paced : AreInPace) (texts : FollowedTextsAreRead) (same : TracksMeanTheSame) where
   pub first_files_mean_the_same : FirstFilesMeanTheSame
   unfolding verified
-  first_files_mean_the_same terms mpd now s files folder prefix place followed begun own holds spells held =
+  first_files_mean_the_same terms mpd now s files folder prefix place players fit followed begun own holds spells held =
       let is = begun_is terms mpd now s begun in let p = is.p in let digits = terms.digits in
       let c : Common = begun_common terms mpd now p in
       let read : IsRead mpd = followed.read 0 (Refresh mpd now) (omega arith) in
@@ -125,7 +125,7 @@ module _ (differ : PeriodIdsDiffer) (periods : SectionsArePeriods) (begins : His
       let known = first_in_force differ periods terms mpd now p (read.tree, read.typed) is.first in
       let shows = begins terms mpd now s begun in
       let opened : s.common.opened ≡ p = ap (λ (s : State). s.common.opened) is.state in
-      same s.common.opened digits files folder prefix (rw opened (record {
+      same s.common.opened digits files folder prefix players fit (rw opened (record {
         verified = verified;
         few = followed.digits;
         ordered = λ r t in_sections in_tracks. in_turn (listed_at p r t)

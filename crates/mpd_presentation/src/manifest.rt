@@ -87,7 +87,7 @@ fn present(
         contents: parted.contents,
         left_out: mpd.left_out(),
     };
-    Presentation::from_placed(alloc, parts, following_of(mpd, now), parted.places)
+    Ok(Presentation::from_placed(parts, following_of(mpd, now), parted.places))
 }
 
 /// The timing of a dynamic MPD.

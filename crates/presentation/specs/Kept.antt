@@ -1,6 +1,6 @@
 -- The value of a `Presentation`, and its invariant.
 use Rattle.std.specs.Prelude.{◌≡◌, ℕ, map, List, length, All, Option, None, Some, option_map}
-use Rattle.presentation.specs.{declared.presentation.Presentation.TheInside.Inside, Groups.groups_of, Presented.{Presented, following_of}}
+use Rattle.presentation.specs.{declared.presentation.Presentation.TheInside.Inside, Presented.{Presented, following_of}}
 use Rattle.presentation.specs.{Presented.{IsEnded, AreFilled}, declared.segments.Behind.Behind, Printing.{PrintedRest, PrintedTiming}}
 use Rattle.presentation.specs.Printing.{begin_of, with_durations, ends_of}
 use Rattle.exact_time.specs.{Tick.time_of, Time.difference, Floor.floor_in, Rounding.{Rounding, rounding_behind, rounding_from, total}}
@@ -17,12 +17,10 @@ presented p = record {
   places = p.places.items;
 }
 
--- There is one content for each section and track, its end is known where the presentation is VOD, and the groups are those
--- of the tracks.
+-- There is one content for each section and track, and its end is known where the presentation is VOD.
 pub record IsKept (p : Inside) : Type 0 where
   pub filled : AreFilled (length p.sections) (length p.tracks) (length p.contents)
   pub ended : p.following ≡ None → All IsEnded p.contents
-  pub grouped : p.groups ≡ groups_of p.tracks
 
 -- the durations of the segments that are left
 abbrev pub durations_behind : Rounding → List Timing → List ℕ

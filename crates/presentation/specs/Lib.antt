@@ -1,5 +1,4 @@
 pub mod Counting
-pub mod Groups
 pub mod Kept
 pub mod Laws
 pub mod Listable

@@ -5,7 +5,6 @@ mod count;
 mod ends;
 mod extent;
 mod fault;
-mod groups;
 mod laws;
 mod longest;
 mod parts;
@@ -31,12 +30,6 @@ pub type TrackList = Sequence<Track>;
 
 /// Sections in order.
 pub type SectionList = Sequence<Section>;
-
-/// Audio groups: by group, then by audio set, the index of a track.
-pub type GroupList = Sequence<Group>;
-
-/// The tracks of an audio group, one for each audio set.
-pub type Group = Sequence<usize>;
 
 /// The contents of the tracks in the sections: by section, then by track.
 pub type ContentList = Sequence<Content>;

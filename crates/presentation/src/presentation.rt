@@ -1,13 +1,12 @@
 // Presentations.
-ghost use Rattle.std.specs.Prelude.{◌≡◌, ℕ, ℤ, ◌<◌, ◌*◌, ◌+◌, ◌^◌, ◌-ℤ◌, unsigned_abs, length, All, None, Some, IfOk, option_map};
+ghost use Rattle.std.specs.Prelude.{◌≡◌, ℕ, ℤ, ◌<◌, ◌*◌, ◌+◌, ◌^◌, ◌-ℤ◌, unsigned_abs, length, All, None, Some, option_map};
 ghost use Rattle.presentation.specs.Presented.{of_parts, of_placed, content_at, start_of, looked_at, following_of, IsEnded, AreFilled};
 ghost use Rattle.presentation.specs.Presented.{window_of, window_at, window_from};
 ghost use Rattle.iso_time.specs.Instant.{IsReadable};
 ghost use Rattle.timeline.specs.Listed.{IsWindowOf};
 
-use crate::groups::groups_of;
-use crate::{Content, ContentList, GroupList, Parts, SectionList, TrackList};
-use bridge_io::{NoMemory, Place};
+use crate::{Content, ContentList, Parts, SectionList, TrackList};
+use bridge_io::Place;
 use exact_time::Nanos;
 use iso_time::Instant;
 use std::alloc::Global;
@@ -63,7 +62,6 @@ pub struct Presentation {
     pub(crate) sections: SectionList,
     pub(crate) contents: ContentList,
     pub(crate) left_out: u64,
-    pub(crate) groups: GroupList,
     pub(crate) following: Option<Following>,
     /// The positions of the contents' Representations, where they come from an MPD.
     pub(crate) places: Vec<Place>,
@@ -83,19 +81,18 @@ impl Model for Presentation {
 
 impl Presentation {
     ghost use Rattle.std.specs.Option.{option_copied};
-    ghost use Rattle.presentation.specs.Groups.{groups_of};
     ghost use Rattle.presentation.specs.Presented.{Presented};
 
     /// The presentation of these parts.
     ///
     /// Requires that there is one content for each section and track, and that no content's segments continue to an
     /// open end.
-    pub fn from_parts(alloc: Global, parts: Parts) -> Result<Presentation, NoMemory>
+    pub fn from_parts(alloc: Global, parts: Parts) -> Presentation
         requires filled { AreFilled (length parts.sections) (length parts.tracks) (length parts.contents) }
         requires ended { All IsEnded parts.contents }
-        ensures { IfOk result (λ presentation. presentation ≡ of_parts parts) }
+        ensures { result ≡ of_parts parts }
     {
-        Presentation::from_placed(alloc, parts, None, Vec::new(alloc))
+        Presentation::from_placed(parts, None, Vec::new(alloc))
     }
 
     /// The presentation of these parts, with its timing where it is followed. `places` are the positions of the contents'
@@ -104,25 +101,22 @@ impl Presentation {
     /// Requires that there is one content for each section and track, and that no content's segments continue to an open
     /// end where the presentation isn't followed.
     pub fn from_placed(
-        alloc: Global,
         parts: Parts,
         following: Option<Following>,
         places: Vec<Place>,
-    ) -> Result<Presentation, NoMemory>
+    ) -> Presentation
         requires filled { AreFilled (length parts.sections) (length parts.tracks) (length parts.contents) }
         requires ended { following ≡ None → All IsEnded parts.contents }
-        ensures { IfOk result (λ presentation. presentation ≡ of_placed parts (option_map following_of following) places.items) }
+        ensures { result ≡ of_placed parts (option_map following_of following) places.items }
     {
-        let groups = groups_of(alloc, parts.tracks.as_slice())?;
-        Ok(Presentation {
+        Presentation {
             tracks: parts.tracks,
             sections: parts.sections,
             contents: parts.contents,
             left_out: parts.left_out,
-            groups,
             following,
             places,
-        })
+        }
     }
 
     /// The tracks in order.
@@ -144,14 +138,6 @@ impl Presentation {
         ensures { result ≡ self.now.left_out }
     {
         self.left_out
-    }
-
-    /// The audio groups: one for each pair of codecs and rank of an audio track in its set, in the order in which these
-    /// first occur; each has one track for each audio set (RFC 8216, 4.3.4.1.1).
-    pub fn groups(&self) -> &GroupList
-        ensures { result.now ≡ groups_of self.now.tracks }
-    {
-        &self.groups
     }
 
     /// The segments of a track in a section. The windows of all sections fit them, at each time.

@@ -239,7 +239,7 @@ resolve_along base text valid is =
 
 -- ---- what a name is read as
 
-name_is_path : (name : List ℕ) → is_plain name ≡ true → IsPath name
+pub name_is_path : (name : List ℕ) → is_plain name ≡ true → IsPath name
 name_is_path [] is = absurd (true≢false (sym is))
 name_is_path (b ∷ name) is =
     let proper = name_parts (b ∷ name) is in

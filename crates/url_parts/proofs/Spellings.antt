@@ -1,14 +1,19 @@
 -- How URLs are spelled beside a playlist.
-use Rattle.std.proofs.Common.{◌≡◌, ◌≢◌, ℕ, ◌==◌, Bool, true, false, List, [], ◌∷◌, ◌++◌, length, drop, Result, Ok, Err, Some, None, Bor}
-use Rattle.std.proofs.{Common.{refl, ap, subst, ◌∙◌, ⊎_elim, if◌then◌else◌}, lemmas.Bool.{and_parts, cases_Bool, cond_both}}
+use Rattle.std.proofs.Common.{◌≡◌, ◌≢◌, ℕ, ◌≤◌, ◌==◌, Bool, true, false, List, [], ◌∷◌, ◌++◌, length, drop, Result}
+use Rattle.std.proofs.Common.{Ok, Err, Some, None, Option, Bor}
+use Rattle.std.proofs.{Common.{refl, sym, ap, subst, ◌∙◌, ⊎_elim, if◌then◌else◌}, lemmas.Bool.{and_parts, cases_Bool}}
+use Rattle.std.proofs.lemmas.Bool.{cond-false, cond_both, le-ltb}
 use Rattle.std.proofs.lemmas.{Bool.Decides.Decides-eqb, List.drop_at, List.Elements.All-drop, List.Folds.list_all-append}
 use Rattle.std.proofs.lemmas.Slice.Eq.{starts_is, bytes_eq-Decides}
-use Rattle.std.specs.{Prelude.{nat_eq, codes}, List.{flat_map, list_all, starts_with}, Option.option_copied, Bool.then_some}
+use Rattle.std.specs.{Prelude.{bytes_eq, nat_eq, not, codes}, List.{flat_map, list_all, starts_with}, Option.option_copied, Bool.then_some}
 use Rattle.url.proofs.InputLemmas.{Passes, All_from_list_all, list_all_from_All}
-use Rattle.bridge_io.specs.Names.{parts_after}
-use Rattle.url_parts.specs.{declared.fault.UrlFault.UrlFault, Addresses.{absolute, is_absolute, is_address_byte, resolve, IsAddress}}
-use Rattle.url_parts.specs.Spelling.{PlaylistPlace, StandsFor, begins_uri, is_given, is_relative, place_of, playlist_url, reference_of}
-use Rattle.url_parts.specs.Spelling.{rest_of, spelled, spelled_beside, steps_up}
+use Rattle.bridge_io.specs.Names.{is_name, parts_after}
+use Rattle.url_parts.specs.Paths.{IsBeneath}
+use Rattle.url_parts.proofs.Relative.{name_is_path, name_is_plain, resolve_plain}
+use Rattle.url_parts.specs.declared.fault.UrlFault.{UrlFault}
+use Rattle.url_parts.specs.Addresses.{absolute, folder_of, is_absolute, is_address_byte, resolve, unless_long, IsAddress, IsBase}
+use Rattle.url_parts.specs.Spelling.{PlaylistPlace, ReachesNames, StandsFor, begins_uri, is_given, is_relative, place_of, playlist_url}
+use Rattle.url_parts.specs.Spelling.{reference_of, rest_of, spelled, spelled_beside, steps_up}
 use Rattle.url_parts.proofs.{Bases.bytes_from_accepted, Parsed.{address_is_base, given_again}}
 
 -- the steps that a byte of a name adds
@@ -51,6 +56,51 @@ rest_inside place address reference rest given whole spelled is =
 pub copied_then_some : (given : Bool) (rest : Bor (List ℕ)) → option_copied (then_some given rest) ≡ (if given then Some rest.now else None)
 copied_then_some true rest = refl
 copied_then_some false rest = refl
+
+-- a name behind the folder is kept without a test where names are reached
+pub rest_named : (place : PlaylistPlace) (address rest : List ℕ) → ReachesNames place → address ≡ place.folder ++ rest
+    → is_name rest ≡ true → length address ≤ 2048 → Some rest ≡ rest_of place address
+rest_named place address rest reaches whole named short =
+    let gives : resolve place.url (place.up ++ rest) ≡ Ok address = reaches rest named ∙ ap unless_long (sym whole)
+    ∙ cond-false _ _ _ (le-ltb 2048 (length address) short) in
+    rest_inside place address (place.up ++ rest) rest true whole refl
+    (sym (ap (is_given address) gives ∙ (bytes_eq-Decides address address).1 refl))
+
+picked : (given : Bool) (place : PlaylistPlace) → given ≡ true → (if given then Some place else None) ≡ Some place
+picked given place is = rw is refl
+
+-- the place that is made of a playlist's URL where this is a base's text in its normal form
+pub made : (base out file text folder up url : List ℕ) (found : Option (List ℕ)) → text ≡ playlist_url base out file
+    → found ≡ (if is_given text (absolute text) then Some text else None) → found ≡ Some url → folder ≡ base → up ≡ steps_up out
+    → Some (record { folder = folder; up = up; url = url }) ≡ place_of base out file
+unfolding place_of
+made base out file text folder up url found whole told is same steps =
+    ⊎_elim
+    (λ given.
+    let full = playlist_url base out file in
+    let own : text ≡ url = (let e = rw given at (sym told ∙ is) in cc) in
+    let place : PlaylistPlace = record { folder = base; up = steps_up out; url = full } in
+    ap (λ (f : List ℕ). Some (record { folder = f; up = up; url = url })) same
+    ∙ ap (λ (u : List ℕ). Some (record { folder = base; up = u; url = url })) steps
+    ∙ ap (λ (l : List ℕ). Some (record { folder = base; up = steps_up out; url = l })) (sym own ∙ whole)
+    ∙ sym (picked (is_given full (absolute full)) place (ap (λ t. is_given t (absolute t)) (sym whole) ∙ given)))
+    (λ other. absurd (let e = rw other at (sym told ∙ is) in cc))
+    (cases_Bool (is_given text (absolute text)))
+
+-- texts that aren't unequal
+pub not_unequal : (one other : List ℕ) → false ≡ not (bytes_eq one other) → one ≡ other
+not_unequal one other is = ⊎_elim
+    (λ same. (bytes_eq-Decides one other).0 same)
+    (λ apart. absurd (let e = rw apart at is in cc))
+    (cases_Bool (bytes_eq one other))
+
+-- names are reached where the steps up lead to the folder
+pub reached : (url up folder deeper : List ℕ) → IsBase folder → IsBeneath url up deeper → deeper ≡ folder → folder_of folder ≡ folder
+    → ReachesNames (record { folder = folder; up = up; url = url })
+reached url up folder deeper is beneath same own name named =
+    let plain = name_is_plain name named in
+    beneath name (name_is_path name plain) ∙ ap (λ base. resolve base name) same ∙ resolve_plain folder name is plain
+    ∙ ap (λ front. unless_long (front ++ name)) own
 
 -- ---- what stands for a URL
 

@@ -1,8 +1,8 @@
 -- The spelling of URLs in a written playlist: absolute, or relative to the playlist where that gives the same URL.
 use Rattle.std.specs.Prelude.{◌≡◌, ℕ, nat_eq, ◌==◌, ◌&&◌, not, Bool, true, false, List, [], ◌∷◌, ◌++◌, length, drop, codes}
 use Rattle.std.specs.{Prelude.{bytes_eq, if◌then◌else◌, Result, Ok, Err, Option, Some, None}, List.{flat_map, list_all, starts_with}}
-use Rattle.bridge_io.specs.Names.{parts_after}
-use Rattle.url_parts.specs.{Addresses.{absolute, is_address_byte, resolve}, declared.fault.UrlFault.UrlFault}
+use Rattle.bridge_io.specs.Names.{is_name, parts_after}
+use Rattle.url_parts.specs.{Addresses.{absolute, is_address_byte, resolve, unless_long}, declared.fault.UrlFault.UrlFault}
 
 -- where a playlist is written: the text that URLs of its folder begin with, the steps from the playlist up to that folder,
 -- and the playlist's own URL
@@ -50,6 +50,10 @@ spelled_beside place address = if is_relative place address then reference_of pl
 abbrev pub spelled : Option PlaylistPlace → List ℕ → List ℕ
 spelled None address = address
 spelled (Some place) address = spelled_beside place address
+
+-- the steps up from a playlist, and then a name, give what the folder's text and the name spell
+abbrev pub ReachesNames : PlaylistPlace → Type 0
+ReachesNames place = (name : List ℕ) → is_name name ≡ true → resolve place.url (place.up ++ name) ≡ unless_long (place.folder ++ name)
 
 -- a line of a playlist that begins so is a URI: it isn't empty, and doesn't begin with `#`
 abbrev pub begins_uri : List ℕ → Bool

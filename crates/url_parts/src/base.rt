@@ -17,7 +17,7 @@ use std::rc::Rc;
 use url::{ParseResult, Url};
 
 /// The most bytes that a URL has.
-const MAX_LEN: usize = 2048;
+pub(crate) const MAX_LEN: usize = 2048;
 
 /// The most bytes that a name has.
 const MAX_NAME_LEN: usize = 255;

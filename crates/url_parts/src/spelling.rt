@@ -1,11 +1,12 @@
 // The spelling of URLs in a written playlist.
-ghost use Rattle.std.specs.Prelude.{◌≡◌, ◌++◌, IfOk, None, Some, if◌then◌else◌};
+ghost use Rattle.std.specs.Prelude.{◌≡◌, ◌++◌, true, IfOk, None, Some, if◌then◌else◌};
 ghost use Rattle.std.specs.Option.{option_copied};
 ghost use Rattle.url_parts.specs.Addresses.{absolute, resolve};
-ghost use Rattle.url_parts.specs.Spelling.{is_given, place_of, rest_of, spelled, spelled_beside, steps_up};
+ghost use Rattle.url_parts.specs.Spelling.{ReachesNames, is_given, place_of, rest_of, spelled, spelled_beside, steps_up};
 
+use crate::base::{MAX_LEN, folder_of};
 use crate::{Base, UrlFault};
-use bridge_io::{Name, NoMemory, Text};
+use bridge_io::{Name, NoMemory, Text, is_name};
 use std::alloc::Global;
 use std::marker::Model;
 
@@ -53,13 +54,20 @@ impl Spelling {
         };
         let folder = folder.copy(alloc)?;
         let up = steps_up(alloc, out)?;
-        let playlist = Some(Playlist { folder, up, url });
+        let reaches = reaches(alloc, &url, up.as_str(), &folder)?;
+        let playlist = Some(Playlist {
+            folder,
+            up,
+            url,
+            reaches,
+        });
         Ok(Spelling { playlist })
     }
 
     /// How a URL is written. It gives the same URL against the playlist's own one (`laws::spelled_address`).
     ///
-    /// Nothing is allocated where all URLs are absolute, nor for a URL that doesn't begin with the base's text.
+    /// Nothing is allocated where all URLs are absolute, nor for a URL that doesn't begin with the base's text, nor as a rule
+    /// for one that is a name behind it.
     pub fn of<'a>(&'a self, alloc: Global, address: &'a str) -> Result<Reference<'a>, NoMemory>
         ensures { IfOk result (λ written. written.up.now ++ written.rest.now ≡ spelled self.now address.now) }
     {
@@ -97,14 +105,19 @@ struct Playlist {
     /// `../` for each step from the playlist up to the folder.
     up: Text,
     url: Base,
+    /// Whether the steps up lead to the folder, so that names behind them aren't resolved.
+    reaches: bool,
 }
 
 impl Model for Playlist {
-    ghost use Rattle.url_parts.specs.Spelling.{PlaylistPlace};
+    ghost use Rattle.std.specs.Prelude.{◌≡◌, true};
+    ghost use Rattle.url_parts.specs.Spelling.{PlaylistPlace, ReachesNames};
 
     ghost Value = { PlaylistPlace };
 
     ghost view = { λ p. record { folder = p.folder; up = p.up; url = p.url } };
+
+    ghost invariant = { λ p. p.reaches ≡ true → ReachesNames (record { folder = p.folder; up = p.up; url = p.url }) };
 }
 
 impl Playlist {
@@ -129,10 +142,31 @@ impl Playlist {
         let Some(rest) = address.strip_prefix(self.folder.as_str()) else {
             return Ok(None);
         };
+        if self.reaches && address.len() <= MAX_LEN && is_name(rest.as_bytes()) {
+            return Ok(Some(rest));
+        }
         let up = self.up.as_str();
         let reference = format!(in alloc; "{up}{rest}")?;
         Ok(gives(alloc, &self.url, reference.as_str(), address)?.then_some(rest))
     }
+}
+
+/// Whether the steps up from a playlist lead to the folder.
+fn reaches(alloc: Global, url: &Base, up: &str, folder: &Base) -> Result<bool, NoMemory>
+    ensures { IfOk result (λ reaches. reaches ≡ true
+        → ReachesNames (record { folder = folder.now; up = up.now; url = url.now })) }
+{
+    let text = folder.as_str();
+    if folder_of(text) != text {
+        return Ok(false);
+    }
+    let Some(deeper) = url.beneath(alloc, up)? else {
+        return Ok(false);
+    };
+    if deeper.as_str() != text {
+        return Ok(false);
+    }
+    Ok(true)
 }
 
 /// Whether a reference resolves to this URL against a base.

@@ -11,7 +11,7 @@ returns-in_err-write_source-clause-err g c =
     let job = c.args.job.now in let files = g.F.Store.files in let before = files c.args.store.now in
     let after = files c.write_source.new.store in
     on_err c.from_residual.result (first_begun (source_file job.out job.seed)
-    (playlists (record { folder = job.out; base = None }) job.digits c.args.ready.now.presentation)
+    (playlists (record { folder = job.out; base = None }) None job.digits c.args.ready.now.presentation)
     before after
     (subst (λ text. MayBegin (in_folder job.out source_name, text) before after) c.requires.text c.in_err-write_source.ensures.err))
 
@@ -22,9 +22,11 @@ returns-clause-ok g c =
     let put_first = subst (λ text. Changes (put (in_folder job.out source_name) text) before mid) c.requires.text
     c.in_ok-write_source.ensures.ok in
     on_ok_by c.write_playlists.result (λ others. then_put (source_file job.out job.seed)
-    (playlists (record { folder = job.out; base = None }) job.digits c.args.ready.now.presentation) before mid after put_first
-    (subst (λ digits. Changes (put_all (playlists (record { folder = job.out; base = None }) digits c.args.ready.now.presentation)) mid
-    after) c.requires.digits others))
+    (playlists (record { folder = job.out; base = None }) None job.digits c.args.ready.now.presentation) before mid after put_first
+    (subst (λ digits. Changes (put_all (playlists (record { folder = job.out; base = None }) None digits c.args.ready.now.presentation))
+    mid after) c.requires.digits
+    (subst (λ players. Changes (put_all (playlists (record { folder = job.out; base = None }) players c.args.ready.now.digits
+    c.args.ready.now.presentation)) mid after) c.requires.plain others)))
     (rw c.absolute.ensures at c.write_playlists.ensures.ok)
 
 pub returns-clause-err : goal.returns-clause-err
@@ -34,7 +36,9 @@ returns-clause-err g c =
     let put_first = subst (λ text. Changes (put (in_folder job.out source_name) text) before mid) c.requires.text
     c.in_ok-write_source.ensures.ok in
     on_err_by c.write_playlists.result (λ others. then_begun (source_file job.out job.seed)
-    (playlists (record { folder = job.out; base = None }) job.digits c.args.ready.now.presentation) before mid after put_first
-    (subst (λ digits. AreBegun (playlists (record { folder = job.out; base = None }) digits c.args.ready.now.presentation) mid after)
-    c.requires.digits others))
+    (playlists (record { folder = job.out; base = None }) None job.digits c.args.ready.now.presentation) before mid after put_first
+    (subst (λ digits. AreBegun (playlists (record { folder = job.out; base = None }) None digits c.args.ready.now.presentation) mid after)
+    c.requires.digits
+    (subst (λ players. AreBegun (playlists (record { folder = job.out; base = None }) players c.args.ready.now.digits
+    c.args.ready.now.presentation) mid after) c.requires.plain others)))
     (rw c.absolute.ensures at c.write_playlists.ensures.err)

@@ -21,4 +21,4 @@ pub returns : goal.returns
 returns c =
     presented_as c.of.result.nanos (map source_of c.args.kept.now) c.args.left_out
     (rows_of c.args.groups.now) c.in_ok-contents.contents c.in_ok-tracks.tracks c.in_ok-sections.sections _
-    c.of.ensures c.in_ok-contents.ensures c.in_ok-tracks.ensures c.in_ok-sections.ensures c.in_ok-from_parts.ensures
+    c.of.ensures c.in_ok-contents.ensures c.in_ok-tracks.ensures c.in_ok-sections.ensures c.from_parts.ensures

@@ -6,4 +6,5 @@ use Rattle.hls_writer.proofs.master.push_rendition_lines.Given as goal
 -- the lines so far are added
 abbrev pub invariant-loop-rendition : goal.invariant-loop-rendition
 invariant-loop-rendition g l =
-    Adds {T = Unit {0}} g.F.Store (flat_map (rendition_text l.tracks) (take l.rendition-index l.renditions)) l.initial.sheet l.sheet (Ok tt)
+    Adds {T = Unit {0}} g.F.Store (flat_map (rendition_text l.tracks l.hints) (take l.rendition-index l.renditions))
+    l.initial.sheet l.sheet (Ok tt)

@@ -6,6 +6,10 @@ pub returns-in-Version : goal.returns-in-Version
 unfolding line_bytes
 returns-in-Version g c = rw c.in-Version.is c.push_numbered.ensures
 
+pub returns-in-IndependentSegments : goal.returns-in-IndependentSegments
+unfolding line_bytes
+returns-in-IndependentSegments g c = rw c.in-IndependentSegments.is c.push_pieces-in-IndependentSegments.ensures
+
 pub returns-in-TargetDuration : goal.returns-in-TargetDuration
 unfolding line_bytes
 returns-in-TargetDuration g c = rw c.in-TargetDuration.is c.push_numbered-in-TargetDuration.ensures

@@ -1,13 +1,22 @@
 use Rattle.url_parts.proofs.spelling.Playlist.rest_of.Goals as goal
-use Rattle.std.proofs.Common.{◌≡◌, ◌++◌, ap, sym, ◌∙◌}
+use Rattle.std.proofs.Common.{◌≡◌, ◌++◌, ap, sym, subst, ◌∙◌, arith}
+use Rattle.bridge_io.specs.Names.{is_name}
 use Rattle.std.specs.Option.{option_copied}
-use Rattle.url_parts.specs.Spelling.{PlaylistPlace}
-use Rattle.url_parts.proofs.Spellings.{copied_then_some, rest_outside, rest_inside}
+use Rattle.url_parts.specs.Spelling.{PlaylistPlace, ReachesNames}
+use Rattle.url_parts.proofs.Spellings.{copied_then_some, rest_inside, rest_named, rest_outside}
 
 pub returns-in_default : goal.returns-in_default
 returns-in_default c =
     let folder = c.as_str.ensures.text ∙ ap (λ (p : PlaylistPlace). p.folder) c.self.view_is in
     rest_outside c.args.self.now c.args.address.now (rw folder at c.in_default.ensures.cases)
+
+pub returns-then-is_name : goal.returns-then-is_name
+returns-then-is_name c =
+    let folder = c.as_str.ensures.text ∙ ap (λ (p : PlaylistPlace). p.folder) c.self.view_is in
+    let whole = (rw folder at c.in-Some.ensures.cases.1.1) ∙ ap (λ t. c.args.self.now.folder ++ t) (sym c.in-Some.ensures.cases.2) in
+    let named = ap is_name (sym c.as_bytes.ensures.value) ∙ sym c.is_name.ensures ∙ c.if-is_name.true in
+    rest_named c.args.self.now c.args.address.now c.in-Some.rest.now (subst ReachesNames c.self.view_is (c.self.invariant c.if-self.true))
+    whole named (omega (arith, c.if-address-le-MAX_LEN.true))
 
 pub returns : goal.returns
 returns c =

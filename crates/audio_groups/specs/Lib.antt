@@ -1,0 +1,4 @@
+pub mod Families
+pub mod Groups
+pub mod Keys
+pub mod Laws

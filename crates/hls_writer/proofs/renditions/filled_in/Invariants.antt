@@ -1,7 +1,0 @@
-use Rattle.std.proofs.Common.{◌≡◌, drop, []}
-use Rattle.hls_writer.specs.Renditions.{filled_from}
-use Rattle.hls_writer.proofs.renditions.filled_in.Given as goal
-
-abbrev pub invariant-loop-set : goal.invariant-loop-set
-invariant-loop-set l = filled_from l.tracks l.keys l.group l.found.items l.set (drop l.set l.members)
-    ≡ filled_from l.tracks l.keys l.group [] 0 l.members

@@ -1,7 +1,0 @@
-use Rattle.std.proofs.Common.{◌≡◌, ◌++◌, drop, map}
-use Rattle.hls_writer.specs.Renditions.{own_rendition}
-use Rattle.hls_writer.proofs.renditions.own_renditions.Given as goal
-
-abbrev pub invariant-loop-place : goal.invariant-loop-place
-invariant-loop-place l = l.found.items ++ map (own_rendition l.tracks l.keys l.groups) (drop l.place-index l.place-items)
-    ≡ map (own_rendition l.tracks l.keys l.groups) l.place-items

@@ -1,0 +1,4 @@
+mod Boundaries
+mod Fitting
+mod Left
+mod Standing
