@@ -64,6 +64,28 @@ def playlists():
             (to_hls("double", period(first), period(second)), one[0] + two[0], one[1] + two[1]),
     }
 
+BANDWIDTHS = [400_000, 128_000, 1_500_000, 64_000, 128_000, 64_000, 384_000]
+
+
+def families():
+    """A presentation with two rungs of video, with the same frames, AAC in two languages and two rungs, and AC-3: its master by form, the
+    frames, their colours."""
+    os.makedirs("families")
+    languages = [word for track, tag in enumerate(("en", "en", "de", "de", "en")) for word in (f"-metadata:s:a:{track}", f"language={tag}")]
+    run(*encoder(0, RATE), "-map", "0:v", *["-map", "1:a"] * 4, "-c:a:4", "ac3", *languages, "-t", str(2 * SECONDS), "-f", "dash",
+        "-seg_duration", "2", "-adaptation_sets", "id=0,streams=0,2 id=1,streams=1,3 id=2,streams=4,5 id=3,streams=6", "manifest.mpd",
+        cwd="families")
+    text = re.sub(r'(<Representation id="(\d)".*?bandwidth=)"\d+"', lambda found: f'{found[1]}"{BANDWIDTHS[int(found[2])]}"',
+                  read("families/manifest.mpd"))
+    with open("families/manifest.mpd", "w") as it:
+        it.write(text)
+    masters = {}
+    for form in FORMS:
+        run(bridge, "hls", "families/manifest.mpd", f"--base={server.base}", f"--out=families-{form}", f"--form={form}")
+        run(bridge, "check", "families/manifest.mpd", f"families-{form}/master.m3u8", f"--base={server.base}")
+        masters[form] = f"{server.base}families-{form}/master.m3u8"
+    return masters, *media("families")
+
 # ---- presentations as MPDs, of playlists
 
 def listed(folder, prefix, first, seconds, *options):
@@ -190,6 +212,17 @@ def play_playlists():
                 print(f"| {name} | {presentation} | {of(play, told)} |", flush=True)
 
 
+def play_families():
+    masters, *shown = families()
+    print("\n| player |", " | ".join(FORMS), "|\n" + "|---" * (len(FORMS) + 1) + "|", flush=True)
+    others = [player for player in PLAYERS if "GStreamer" not in player[0]]
+    players = [(name, program, exactly(play)) for name, program, play in
+               [*others, ("GStreamer's hlsdemux2", "gst-launch-1.0", in_hlsdemux2)]] + [("Chromium", "chromium", in_chromium)]
+    for player, program, play in players:
+        if name := installed(player, program):
+            print(f"| {name} |", " | ".join(of(play, (masters[form], *shown)) for form in FORMS), "|", flush=True)
+
+
 def play_manifests():
     presentations = manifests()
     print("\n| player | form |", " | ".join(presentations), "|")
@@ -208,4 +241,5 @@ if __name__ == "__main__":
     os.chdir(folder)
     server = playing.Server()
     play_playlists()
+    play_families()
     play_manifests()

@@ -4,8 +4,9 @@
 # with those that ffmpeg decodes of the media files themselves; VLC's, streamlink's and yt-dlp's are decoded from the file that they write.
 # Chromium's come from a canvas, frame after frame by seeking: their numbers are read, and their colours compared.
 #
-# First the playlists of `bridge hls`: of one Period, of two Periods, and of segments that are ranges of one file. Then the MPDs of `bridge
-# dash` and `bridge dash-times` in both forms; Chromium has no DASH player, so a page (players.html) appends the segments.
+# First the playlists of `bridge hls`: of one Period, of two Periods, and of segments that are ranges of one file. Then a master of two
+# families of audio codecs in both forms. Then the MPDs of `bridge dash` and `bridge dash-times` in both forms; Chromium has no DASH player,
+# so a page (players.html) appends the segments.
 #
 # It wants ffmpeg and python3, and `rt` where no program is named: `bench/players.sh [<program>]`. docs/PLAYLISTS.md and docs/MPD.md have
 # what it printed.

@@ -106,6 +106,9 @@ def judge(rows, most_seconds, most_megabytes):
 
 rows.append(("hls", under("levels.mpd", 995, 190, (UP * 400, UP * 74, UP * 74), template("$Number$")), BASE,
              "995 Periods of 190 Representations, below BaseURLs at three levels"))
+labels = ['<Period><AdaptationSet mimeType="audio/mp4"><Label>' + "l" * 255 + "</Label>", template("$Number$"),
+          *(f'<Representation id="{k}" bandwidth="1"/>' for k in range(180_000)), "</AdaptationSet></Period>"]
+rows.append(("hls --form=players", mpd("labels.mpd", labels, lasting(1)), BASE, "180,000 Representations of a set with a Label of 255 bytes"))
 rows.append(("hls --addresses=relative", named("beside.mpd", "d" * 1_950 + "/$Number$"), BASE,
              "100,000 segments of which each has a relative URL of 2 kB"))
 judge(rows, 5, 600)

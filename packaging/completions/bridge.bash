@@ -8,8 +8,8 @@ _bridge() {
         return
     fi
     case $command in
-    hls) options='--base= --now= --out= --digits= --addresses=' wanted=mpd ;;
-    hls-index) options='--base= --out= --digits= --addresses=' wanted=mpd ;;
+    hls) options='--base= --now= --out= --digits= --form= --addresses=' wanted=mpd ;;
+    hls-index) options='--base= --out= --digits= --form= --addresses=' wanted=mpd ;;
     dash | dash-times | follow-hls) options='--base= --out= --form=' wanted=m3u8 ;;
     show) options='--base= --now= --digits=' wanted='@(mpd|m3u8)' ;;
     check) options='--base= --digits=' wanted='@(mpd|m3u8)' ;;
@@ -17,7 +17,7 @@ _bridge() {
     agree) options='--base=' wanted=mpd ;;
     reload) options='--base=' wanted=m3u8 ;;
     make) options='--seed= --out= --digits=' wanted= ;;
-    follow) options='--base= --out= --digits= --addresses=' wanted=mpd ;;
+    follow) options='--base= --out= --digits= --form= --addresses=' wanted=mpd ;;
     *) return ;;
     esac
     options+=' --explain'
