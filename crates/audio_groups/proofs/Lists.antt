@@ -31,6 +31,14 @@ any_wider p q wider (x ∷ xs) e = elim (or_cases (p x) (list_any p xs) e) [
   | inr later ↦ or_right (q x) (list_any q xs) (any_wider p q wider xs later)
 ]
 
+pub any_mapped : {X Y : Type 0} (q : X → Bool) (p : Y → Bool) (f : X → Y) → ((x : X) → q x ≡ true → p (f x) ≡ true) → (xs : List X)
+    → list_any q xs ≡ true → list_any p (map f xs) ≡ true
+any_mapped q p f passes [] e = absurd (cc)
+any_mapped q p f passes (x ∷ xs) e = elim (or_cases (q x) (list_any q xs) e) [
+  | inl here ↦ or_left (p (f x)) (list_any p (map f xs)) (passes x here)
+  | inr later ↦ or_right (p (f x)) (list_any p (map f xs)) (any_mapped q p f passes xs later)
+]
+
 pub options_decide : {A : Type 0} (E : A → A → Bool) → ((a b : A) → Decides (E a b) (a ≡ b)) → (x y : Option A)
     → Decides (option_eq E x y) (x ≡ y)
 options_decide E each None None = (λ h. refl, λ e. refl)

@@ -1,14 +1,14 @@
 -- The segments of a section one after another.
-use Rattle.std.proofs.Common.{◌≡◌, ℕ, List, [], ◌∷◌, ◌++◌, All, Option, None, Some, Ok, IfSome, option_map, refl, sym, ap, ◌∙◌}
+use Rattle.std.proofs.Common.{◌≡◌, ℕ, List, [], ◌∷◌, ◌++◌, All, Option, None, Some, Result, Ok, Err, IfSome, option_map, refl, sym, ap, ◌∙◌}
 use Rattle.std.proofs.{Common.append_assoc, lemmas.List.map-append, lemmas.List.Concat.flat_map-append}
 use Rattle.std.proofs.{lemmas.List.Elements.{All-head, All-tail}}
 use Rattle.url_parts.specs.{Spelling.PlaylistPlace, declared.address.Part.Part}
-use Rattle.timeline.specs.{Listed.part_of_timing, Expansions.Timing}
+use Rattle.timeline.specs.{Listed.part_of_timing, Expansions.Timing, Written.spelled_in, declared.fault.ListFault.ListFault}
 use Rattle.presentation.specs.{Laws.HasAddress, Printing.{IsAtEnd, IsPassed, PrintedRest, PrintedTiming, printed_timings, rest_of}}
 use Rattle.presentation.specs.declared.parts.Content.{Content}
 use Rattle.std.specs.Option.{option_map_or}
 use Rattle.hls_writer.specs.{Finished.{content_items, item_of, items_at}, Lines.{line_text, lines_text}, Playlists.{Item, item_lines}}
-use Rattle.hls_writer.specs.{Playlists.{items_lines, last_section}, Spelled.{spelled_item, spelled_items}}
+use Rattle.hls_writer.specs.{Playlists.{items_lines, last_section}, Spelled.{spelled_item, spelled_items, spelled_part}}
 
 -- one more item is added to what goes on to a whole text
 pub one_more : (digits : ℕ) (former : Option ℕ) (item : Item) (items : List Item) (done whole : List ℕ)
@@ -46,6 +46,11 @@ more_spelled place digits former xs ys done whole goes =
     more_items digits former (spelled_items place xs) (spelled_items place ys) done whole
     (ap (λ items. done ++ lines_text (items_lines digits former items)) (sym (map-append (spelled_item place) xs ys)) ∙ goes)
 
+spelled_of : (place : Option PlaylistPlace) (result : Result Part ListFault) (part : Part) → spelled_in place result ≡ Ok part
+    → (own : Part) × ((result ≡ Ok own) × (spelled_part place own ≡ part))
+spelled_of place (Ok own) part is = let same : spelled_part place own ≡ part = cc in (own, (refl, same))
+spelled_of place (Err fault) part is = absurd (cc)
+
 module _ (map : Part) (section : ℕ) (old new : PrintedRest) where
   abbrev pub left : PrintedRest → List Item
   left rest = items_at rest.timeline map section rest.left
@@ -53,6 +58,15 @@ module _ (map : Part) (section : ℕ) (old new : PrintedRest) where
   pub next_item : (times : Timing) (duration : ℕ) (part : Part) → IsPassed old times duration new
       → part_of_timing old.timeline times ≡ Ok part → left old ≡ item_of part map section duration ∷ left new
   next_item times duration part next has = rw (next.next, has, next.timeline) refl
+
+  -- the same as the playlist has it
+  pub next_spelled : (place : Option PlaylistPlace) (times : Timing) (duration : ℕ) (part : Part) → IsPassed old times duration new
+      → spelled_in place (part_of_timing old.timeline times) ≡ Ok part
+      → spelled_items place (left old) ≡ item_of part (spelled_part place map) section duration ∷ spelled_items place (left new)
+  next_spelled place times duration part next has =
+      let found = spelled_of place (part_of_timing old.timeline times) part has in
+      ap (spelled_items place) (next_item times duration found.0 next found.1.0)
+      ∙ ap (λ (p : Part). item_of p (spelled_part place map) section duration ∷ spelled_items place (left new)) found.1.1
 
   pub first_addressed : (times : Timing) (duration : ℕ) → IsPassed old times duration new
       → All (λ x. HasAddress old.timeline x.times) old.left → HasAddress old.timeline times

@@ -5,7 +5,6 @@ use Rattle.iso_time.specs.Instant.{IsWritable}
 use Rattle.hls_writer.specs.Lines.{WrittenLine, header, version, target_duration, media_sequence, discontinuity_sequence, on_demand}
 use Rattle.hls_writer.specs.Lines.{independent_segments, discontinuity, initialization, program_date_time, byte_range, end_list}
 use Rattle.hls_writer.specs.{Playlists.{Item, present}, Spelled.spelled_part, declared.line.Tag.Tag, declared.entry.Entry.Entry}
-use Rattle.url_parts.specs.Spelling.{spelled}
 
 -- the value of a line
 abbrev pub written : Tag → WrittenLine
@@ -29,7 +28,7 @@ all_written lines = present (map (option_map written) lines)
 -- the segment with its URLs as they are spelled
 abbrev pub entry_item : Entry → Item
 entry_item entry = record {
-  part = record { address = spelled entry.spelling.now entry.address.now; range = entry.range };
+  part = record { address = entry.address.up.now ++ entry.address.rest.now; range = entry.range };
   map = spelled_part entry.spelling.now entry.map.now;
   duration = entry.duration;
   section = entry.section;

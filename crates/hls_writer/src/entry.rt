@@ -2,7 +2,7 @@
 ghost use Rattle.std.specs.Prelude.{◌≡◌, replicate, option_map, option_to_list, IfSome};
 ghost use Rattle.iso_time.specs.Instant.{IsWritable};
 ghost use Rattle.bridge_io.specs.Adding.{Adds};
-ghost use Rattle.hls_writer.specs.Lines.{line_text, lines_text, discontinuity, program_date_time, byte_range, uri};
+ghost use Rattle.hls_writer.specs.Lines.{lines_text, discontinuity, program_date_time, byte_range};
 ghost use Rattle.hls_writer.specs.Playlists.{rise, begins_section, map_line, front_lines, last_lines, item_lines};
 ghost use Rattle.hls_writer.specs.Rows.{entry_item};
 
@@ -11,13 +11,13 @@ use bridge_io::{Fail, Sheet, Store};
 use exact_time::Digits;
 use iso_time::Instant;
 use std::alloc::Global;
-use url_parts::{Part, Range, Spelling};
+use url_parts::{Part, Range, Reference, Spelling};
 
 /// A segment as a playlist lists it.
 #[derive(Clone, Copy)]
 pub struct Entry<'a> {
-    /// Its URL.
-    pub address: &'a str,
+    /// Its URL as the playlist has it.
+    pub address: Reference<'a>,
     /// Its byte range in the file; `None` is the whole file.
     pub range: Option<Range>,
     /// Its init segment.
@@ -28,7 +28,7 @@ pub struct Entry<'a> {
     pub section: u64,
     /// When it begins.
     pub date: Option<Instant>,
-    /// How its URLs are spelled.
+    /// How the URL of its init segment is spelled.
     pub spelling: &'a Spelling,
 }
 
@@ -46,7 +46,7 @@ impl Entry<'_> {
     {
         push_discontinuities(sheet, rise(former, self.section))?;
         self.push_front(sheet, alloc, former)?;
-        self.push_last(sheet, alloc, digits)
+        self.push_last(sheet, digits)
     }
 
     /// Writes the lines of what begins with the segment.
@@ -91,24 +91,12 @@ impl Entry<'_> {
     }
 
     /// Writes the lines of the segment itself.
-    fn push_last<F: Store>(
-        &self,
-        sheet: &mut Sheet<F>,
-        alloc: Global,
-        digits: Digits,
-    ) -> Result<(), Fail>
+    fn push_last<F: Store>(&self, sheet: &mut Sheet<F>, digits: Digits) -> Result<(), Fail>
         ensures { Adds F.Store (lines_text (last_lines digits (entry_item self.now))) sheet.old sheet.new result }
     {
         push_duration(sheet, digits, self.duration)?;
         self.push_range(sheet)?;
-        self.push_address(sheet, alloc)
-    }
-
-    fn push_address<F: Store>(&self, sheet: &mut Sheet<F>, alloc: Global) -> Result<(), Fail>
-        ensures { Adds F.Store (line_text (uri (entry_item self.now).part.address)) sheet.old sheet.new result }
-    {
-        let address = self.spelling.of(alloc, self.address)?;
-        push_uri(sheet, address)
+        push_uri(sheet, self.address)
     }
 
     fn push_range<F: Store>(&self, sheet: &mut Sheet<F>) -> Result<(), Fail>

@@ -12,12 +12,12 @@ ghost use Rattle.presentation.specs.Verifying.{verified};
 ghost use Rattle.hls_writer.specs.Verified.{IsVerified};
 ghost use Rattle.bridge_io.specs.Adding.{Adds};
 ghost use Rattle.hls_writer.specs.Finished as spec;
-ghost use Rattle.hls_writer.specs.Spelled.{spelled_item, spelled_items};
+ghost use Rattle.hls_writer.specs.Spelled.{spelled_items, spelled_part};
 ghost use Rattle.hls_writer.specs.Lines.{lines_text, on_demand};
 ghost use Rattle.hls_writer.specs.Playlists.{head_lines, items_lines, item_lines, last_section};
 ghost use Rattle.hls_writer.specs.Rows.{all_written, CanBeThere};
 ghost use Rattle.timeline.specs.Listed.{CanBeNamed, part_of_timing, timing_of};
-ghost use Rattle.timeline.specs.Written.{part_with};
+ghost use Rattle.timeline.specs.Written.{part_with, spelled_in};
 ghost use Rattle.bridge_io.specs.declared.out_fault.OutFault.TheVariants.{WriteFault};
 
 use crate::OutFault;
@@ -29,7 +29,7 @@ use presentation::{Longest, Presentation, PrintedSegments, Track};
 use std::alloc::Global;
 use timeline::{AddressWriter, ListFault, Span};
 use track_hints::Hints;
-use url_parts::{Part, Range, Spelling};
+use url_parts::{Part, Range, Reference, Spelling};
 
 /// What the target durations (RFC 8216, 4.3.3.1) of the playlists of a VOD presentation are.
 #[derive(Clone, Copy)]
@@ -233,9 +233,11 @@ fn write_address(
     requires named { CanBeNamed addresses.old.timeline (timing_of span.now) }
     requires has { HasAddress addresses.old.timeline (timing_of span.now) }
     ensures part { MatchResult result
-        (λ range. part_of_timing addresses.old.timeline (timing_of span.now) ≡ Ok (part_with addresses.new.address range))
+        (λ range. spelled_in addresses.old.place (part_of_timing addresses.old.timeline (timing_of span.now))
+        ≡ Ok (part_with addresses.new.text range))
         (λ fail. fail ≡ Memory) }
     ensures timeline { addresses.new.timeline ≡ addresses.old.timeline }
+    ensures place { addresses.new.place ≡ addresses.old.place }
 {
     match addresses.write(alloc, span) {
         Ok(range) => Ok(range),
@@ -358,7 +360,7 @@ fn push_segments<F: Store, L: Ledger>(
     ensures last { let items = spec.items_at segments.entry.timeline place.now.map.now place.now.section segments.entry.left in
         IfOk result (λ last. last ≡ last_section former (spelled_items place.now.spelling.now items)) }
 {
-    let mut addresses = segments.addresses(alloc)?;
+    let mut addresses = segments.addresses(alloc, place.spelling)?;
     let mut former = former;
     while let Some((span, duration)) = segments.pass(steps) {
         let range = write_address(alloc, &mut addresses, &span)?;
@@ -378,12 +380,15 @@ fn push_segment<F: Store>(
     former: Option<u64>,
     sheet: &mut Sheet<F>,
 ) -> Result<(), Fail>
-    ensures { let item = spec.item_of (part_with addresses.now.address range) place.now.map.now place.now.section duration in
-        Adds F.Store (lines_text (item_lines place.now.digits former (spelled_item place.now.spelling.now item)))
-        sheet.old sheet.new result }
+    ensures { let map = spelled_part place.now.spelling.now place.now.map.now in
+        let item = spec.item_of (part_with addresses.now.text range) map place.now.section duration in
+        Adds F.Store (lines_text (item_lines place.now.digits former item)) sheet.old sheet.new result }
 {
     let entry = Entry {
-        address: addresses.as_str(),
+        address: Reference {
+            up: "",
+            rest: addresses.as_str(),
+        },
         range,
         map: place.map,
         duration,

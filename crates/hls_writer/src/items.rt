@@ -8,8 +8,8 @@ ghost use Rattle.bridge_io.specs.Adding.{Adds};
 ghost use Rattle.hls_writer.specs.Items.{item_of, items_text, spelled_text};
 ghost use Rattle.hls_writer.specs.Spelled.{spelled_item, spelled_items};
 ghost use Rattle.hls_writer.specs.Lines.{lines_text, discontinuity_sequence};
-ghost use Rattle.hls_writer.specs.Playlists.{head_lines, items_lines, last_section};
-ghost use Rattle.hls_writer.specs.Rows.{all_written, entry_item, CanBeThere};
+ghost use Rattle.hls_writer.specs.Playlists.{head_lines, item_lines, items_lines, last_section};
+ghost use Rattle.hls_writer.specs.Rows.{all_written, CanBeThere};
 ghost use Rattle.bridge_io.specs.declared.out_fault.OutFault.TheVariants.{WriteFault};
 
 use crate::OutFault;
@@ -73,18 +73,30 @@ impl MediaHead {
 }
 
 impl MediaItem {
-    fn entry<'a>(&'a self, spelling: &'a Spelling) -> Entry<'a>
-        ensures { entry_item result ≡ spelled_item spelling.now (item_of self.now) }
+    /// Writes the lines of the item, after a segment of the section `former` or as the playlist's first one.
+    fn push_to<'a, F: Store>(
+        &'a self,
+        sheet: &mut Sheet<F>,
+        alloc: Global,
+        digits: Digits,
+        spelling: &'a Spelling,
+        former: Option<u64>,
+    ) -> Result<(), Fail>
+        requires { IsWritable self.now.date }
+        ensures { let item = spelled_item spelling.now (item_of self.now) in
+            Adds F.Store (lines_text (item_lines digits former item)) sheet.old sheet.new result }
     {
-        Entry {
-            address: self.address.as_str(),
+        let address = spelling.of(alloc, self.address.as_str())?;
+        let entry = Entry {
+            address,
             range: self.range,
             map: &self.map,
             duration: self.duration,
             section: self.section,
             date: Some(self.date),
             spelling,
-        }
+        };
+        entry.push_to(sheet, alloc, digits, former)
     }
 }
 
@@ -208,7 +220,7 @@ fn push_items<F: Store>(
 {
     let mut former = former;
     for item in items {
-        item.entry(spelling).push_to(sheet, alloc, digits, former)?;
+        item.push_to(sheet, alloc, digits, spelling, former)?;
         former = Some(item.section);
     }
     Ok(former)

@@ -11,7 +11,6 @@ pub mod MasterFirsts
 pub mod MasterLabels
 pub mod MasterLaid
 pub mod MasterLines
-pub mod MasterLists
 pub mod MasterNames
 pub mod MasterNumbers
 pub mod MasterOrder

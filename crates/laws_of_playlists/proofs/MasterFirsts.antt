@@ -7,7 +7,8 @@ use Rattle.bridge_io.proofs.Texts.{equals_itself}
 use Rattle.bridge_io.specs.{Texts.is_among, declared.media.Kind.TheVariants.Video}
 use Rattle.hls_master.specs.Tracks.{Mentioned, by_rendition, by_variant, address_of, firsts_behind, variant_kind}
 use Rattle.hls_writer.specs.Variants.{video_variant}
-use Rattle.laws_of_playlists.proofs.{MasterTypes.Variant, MasterLists.{all_weaker, zip_parts}}
+use Rattle.laws_of_playlists.proofs.{MasterTypes.Variant}
+use Rattle.audio_groups.proofs.Lists.{all_weaker, zip_parts}
 
 -- what is among addresses stays out of the first mentions
 pub known : (ms rest : List Mentioned) (seen : List (List ℕ)) → AllByRecursion (λ m. is_among (address_of m) seen ≡ true) ms

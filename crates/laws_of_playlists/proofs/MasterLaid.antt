@@ -13,7 +13,8 @@ use Rattle.hls_writer.specs.{Master.{filling_of, grouped_of, laid_out}, Menus.{h
 use Rattle.hls_writer.specs.Renditions.{LaidOut, filled_at, filled_from, filled_renditions, members_in, own_rendition, own_renditions}
 use Rattle.hls_writer.specs.Renditions.{places_of, renditions_of, text_from, text_rendition, with_one}
 use Rattle.hls_writer.specs.Variants.{sound_variant, sound_variants}
-use Rattle.laws_of_playlists.proofs.{MasterLists.{all_append, all_map, all_of, all_weaker}, MasterTypes.{IsKnown, Rendition, Variant}}
+use Rattle.laws_of_playlists.proofs.{MasterTypes.{IsKnown, Rendition, Variant}}
+use Rattle.audio_groups.proofs.Lists.{all_append, all_map, all_of, all_weaker}
 use Rattle.laws_of_playlists.proofs.MasterNumbers.{BeginsAudio, IsAudio, IsAudioIfSome, groups_audio, groups_begin, number_is, number_of}
 
 -- ---- tracks as they are grouped

@@ -17,7 +17,8 @@ use Rattle.presentation.specs.declared.track.Track.{Track}
 use Rattle.laws_of_playlists.specs.{Master.IsFitFor, ReadLines.{IsReadable, said_from_place}, Tracks.IsTold}
 use Rattle.laws_of_playlists.proofs.{LineTexts.{plain_ascii, plain_behind}, MasterLabels.fit_labels, MasterLaid.{IsNamed, are_named, laid}}
 use Rattle.laws_of_playlists.proofs.MasterAttributes.{IsFine, attributes_are, carried_text, ends_append, playlist_carried}
-use Rattle.laws_of_playlists.proofs.{MasterAttributes.readable_attributes, MasterLists.{all_append, all_map, all_weaker}}
+use Rattle.laws_of_playlists.proofs.{MasterAttributes.readable_attributes}
+use Rattle.audio_groups.proofs.Lists.{all_append, all_map, all_weaker}
 use Rattle.laws_of_playlists.proofs.MasterTags.{AreCarried, HasName, codecs_with, codes_carried, once_with, rendition_fine, rendition_read}
 use Rattle.laws_of_playlists.proofs.{MasterTags.{seen, with_fine}, MasterTypes.{Rendition, Variant}, MasterVariants.IsSeen}
 

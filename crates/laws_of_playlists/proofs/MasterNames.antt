@@ -12,7 +12,7 @@ use Rattle.hls_master.specs.Renditions.{RenditionValue, same_kind, same_renditio
 use Rattle.track_hints.specs.{Labels.{ends_in_number, is_number}, declared.hints.TrackHints.TrackHints}
 use Rattle.hls_writer.specs.Attributes.{WrittenAttribute, name, label, tag_or_undetermined}
 use Rattle.hls_writer.specs.{Menus.{is_single, label_at, name_at}, Renditions.of_name}
-use Rattle.laws_of_playlists.proofs.MasterLists.{options_decide}
+use Rattle.audio_groups.proofs.Lists.{options_decide}
 
 abbrev pub is_digit : ℕ → Bool
 is_digit b = leb 48 b && leb b 57

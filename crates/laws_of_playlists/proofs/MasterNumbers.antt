@@ -13,11 +13,11 @@ use Rattle.hls_writer.specs.{Menus.is_place, Renditions.members_in}
 use Rattle.audio_groups.specs.Keys.{is_same_key, keys_of, own_group}
 use Rattle.hls_writer.specs.{Master.tracks_in}
 use Rattle.laws_of_playlists.proofs.MasterTypes.{AudioTrack, firsts, of_same_set, same_key}
-use Rattle.laws_of_playlists.proofs.MasterLists.{IsPlaced, all_map, all_of, all_weaker, any_mapped, placed, placed_alike}
+use Rattle.audio_groups.proofs.Lists.{IsPlaced, all_map, all_of, all_weaker, any_mapped, placed, placed_alike}
 use Rattle.laws_of_playlists.specs.Players.{IsAmong}
 use Rattle.laws_of_playlists.proofs.PlayerLists.{among_passing, count_any, count_less, count_map, count_pushed}
-use Rattle.laws_of_playlists.proofs.MasterPlaces.{IsAt, all_at, all_firsts, finds, firsts_few, firsts_have, follow, key_of, keys_are}
-use Rattle.laws_of_playlists.proofs.MasterPlaces.{renditions_few, same_place}
+use Rattle.audio_groups.proofs.Places.{IsAt, all_at, finds, follow}
+use Rattle.laws_of_playlists.proofs.MasterPlaces.{all_firsts, firsts_few, firsts_have, key_of, keys_are, renditions_few, same_place}
 
 -- ---- a set's member of a group
 

@@ -10,8 +10,10 @@ use Rattle.hls_master.specs.Tracks.{Mentioned, by_rendition, by_variant, address
 use Rattle.hls_writer.specs.{Attributes.playlist_name, Renditions.{places_from, places_of}}
 use Rattle.presentation.specs.{declared.track.Track.Track, Order.is_of}
 use Rattle.laws_of_playlists.specs.Master.{heads_from, told_language}
-use Rattle.laws_of_playlists.proofs.{MasterFirsts.{IsVideo, IsVideoAt, Stand}, MasterLists.all_weaker}
-use Rattle.laws_of_playlists.proofs.{MasterNames.same_test, MasterPlaces.Follow}
+use Rattle.laws_of_playlists.proofs.{MasterFirsts.{IsVideo, IsVideoAt, Stand}}
+use Rattle.audio_groups.proofs.Lists.{all_weaker}
+use Rattle.audio_groups.proofs.Places.{Follow}
+use Rattle.laws_of_playlists.proofs.MasterNames.{same_test}
 use Rattle.laws_of_playlists.proofs.MasterSets.{AreGood, kinds_are_same, language_of, mention_head}
 
 -- ---- the places of the tracks of a kind

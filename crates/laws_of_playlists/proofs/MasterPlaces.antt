@@ -9,8 +9,8 @@ use Rattle.std.specs.{Bool.⊤, List.{AllByRecursion, list_any, slice_get}, Opti
 use Rattle.presentation.specs.declared.track.Track.{Track}
 use Rattle.audio_groups.specs.Groups.{has_codes_of, is_audio, rendition_at, renditions_from, same_text}
 use Rattle.audio_groups.specs.Keys.{is_same_key, keys_from, with_key}
-use Rattle.laws_of_playlists.proofs.{MasterTypes.{AudioTrack, Key, firsts, same_key}, MasterLists.{all_append, any_kept, any_pushed}}
-use Rattle.laws_of_playlists.proofs.MasterLists.{any_wider, options_decide, placed}
+use Rattle.audio_groups.proofs.{Lists.{all_append, any_kept, any_pushed, any_wider, options_decide}, Places.same_codecs}
+use Rattle.laws_of_playlists.proofs.MasterTypes.{AudioTrack, Key, firsts, same_key}
 
 -- ---- the first of their set or key
 
@@ -95,40 +95,6 @@ module _ (tracks : List Track) where
     | inr isnt ↦ rw isnt (keys_are found (place + 1) later)
   ]
 
-  -- ---- each audio track has its rendition
-
-  -- tracks stand one after another from a place on
-  abbrev pub Follow : ℕ → List Track → Type 0
-  Follow place [] = ⊤
-  Follow place (track ∷ later) = (slice_get tracks place ≡ Some track) × Follow (place + 1) later
-
-  pub follow : (front later : List Track) → tracks ≡ front ++ later → Follow (length front) later
-  follow front [] e = tt
-  follow front (track ∷ later) e = (
-    ap (λ ts. slice_get ts (length front)) e ∙ get_at front,
-    subst (λ n. Follow n later) (length_push front track)
-        (follow (front ++ track ∷ []) later (e ∙ sym (append_assoc front (track ∷ []) later))),
-  )
-    where
-      get_at : (front : List Track) → slice_get (front ++ track ∷ later) (length front) ≡ Some track
-      get_at [] = refl
-      get_at (x ∷ xs) = get_at xs
-
-  pub record IsAt (one : AudioTrack) : Type 0 where
-    pub track : Track
-    pub at : slice_get tracks one.place ≡ Some track
-    pub audio : is_audio track.kind ≡ true
-    pub is : one ≡ rendition_at tracks one.place track
-
-  pub all_at : (found : List AudioTrack) (place : ℕ) (later : List Track) → Follow place later → AllByRecursion IsAt found
-      → AllByRecursion IsAt (renditions_from tracks found place later)
-  all_at found place [] at all = all
-  all_at found place (track ∷ later) at all = elim (cases_Bool (is_audio track.kind)) [
-    | inl is ↦ rw is (all_at (found ++ rendition_at tracks place track ∷ []) (place + 1) later at.1
-        (all_append IsAt found (rendition_at tracks place track ∷ []) all (record { track = track; at = at.0; audio = is; is = refl }, tt)))
-    | inr isnt ↦ rw isnt (all_at found (place + 1) later at.1 all)
-  ]
-
   pub renditions_few : (found : List AudioTrack) (place : ℕ) (later : List Track)
       → length (renditions_from tracks found place later) ≤ length found + length later
   renditions_few found place [] = omega arith
@@ -141,49 +107,7 @@ module _ (tracks : List Track) where
     | inr isnt ↦ rw isnt (omega (arith, renditions_few found (place + 1) later))
   ]
 
-  module _ (q : AudioTrack → Bool) where
-    keeps : (found : List AudioTrack) (place : ℕ) (later : List Track) → list_any q found ≡ true
-        → list_any q (renditions_from tracks found place later) ≡ true
-    keeps found place [] e = e
-    keeps found place (track ∷ later) e = elim (cases_Bool (is_audio track.kind)) [
-      | inl is ↦ rw is (keeps (found ++ rendition_at tracks place track ∷ []) (place + 1) later
-          (any_kept q found (rendition_at tracks place track) e))
-      | inr isnt ↦ rw isnt (keeps found (place + 1) later e)
-    ]
-
-    pub finds : (found : List AudioTrack) (place : ℕ) (later : List Track) (k n : ℕ) (track : Track) → n ≡ place + k
-        → slice_get later k ≡ Some track → is_audio track.kind ≡ true → q (rendition_at tracks n track) ≡ true
-        → list_any q (renditions_from tracks found place later) ≡ true
-    finds found place [] k n track sum at audio passes = absurd (cc)
-    finds found place (x ∷ later) zero n track sum at audio passes =
-        let is : x ≡ track = same_Some x track at in
-        let here : n ≡ place = omega arith in
-        rw (ap (λ (t : Track). is_audio t.kind) is, audio) (keeps (found ++ rendition_at tracks place x ∷ []) (place + 1) later
-        (any_pushed q found (rendition_at tracks place x) (rw (is, ← here) passes)))
-    finds found place (x ∷ later) (suc k) n track sum at audio passes = elim (cases_Bool (is_audio x.kind)) [
-      | inl is ↦ rw is (finds (found ++ rendition_at tracks place x ∷ []) (place + 1) later k n track (omega arith) at audio passes)
-      | inr isnt ↦ rw isnt (finds found (place + 1) later k n track (omega arith) at audio passes)
-    ]
-
   -- ---- set, codes and rank tell a track
-
-  codes_decide : (x y : Option (List ℕ)) → option_eq same_text x y ≡ true → x ≡ y
-  codes_decide x y = (options_decide same_text bytes_eq-Decides x y).0
-
-  abbrev codes_at : ℕ → Track → ℕ
-  codes_at place track = unwrap_or (position (has_codes_of track) tracks) place
-
-  -- the first track with a track's codes has them
-  own_codes : (place : ℕ) (track : Track) → slice_get tracks place ≡ Some track → is_audio track.kind ≡ true → (d : Track)
-      → track.codecs ≡ (get_or tracks (codes_at place track) d).codecs
-  own_codes place track at audio d =
-      let itself : has_codes_of track track ≡ true = and_from (is_audio track.kind) _ audio
-      ((options_decide same_text bytes_eq-Decides track.codecs track.codecs).1 refl) in
-      let here : has_codes_of track (get_or tracks place track) ≡ true = rw (get_or_from_slice_get tracks place track track at) itself in
-      let first = placed (has_codes_of track) tracks (list_any_at (has_codes_of track) tracks place track
-      (slice_get_within tracks place track at) here) in
-      codes_decide track.codecs (get_or tracks (codes_at place track) d).codecs
-      (rw first.is (and_parts (is_audio (get_or tracks first.place d).kind) _ (first.passes d)).1)
 
   abbrev alike : (set : ℕ) (codecs : Option (List ℕ)) → Track → Bool
   alike set codecs other = eqb set other.set && (is_audio other.kind && option_eq same_text codecs other.codecs)
@@ -209,8 +133,7 @@ module _ (tracks : List Track) where
       → (rendition_at tracks p t).codes ≡ (rendition_at tracks q u).codes → (rendition_at tracks p t).rank ≡ (rendition_at tracks q u).rank
       → p < q → ⊥
   not_before p q t u at_p at_q audio_t audio_u set codes rank less =
-      let codecs : t.codecs ≡ u.codecs = own_codes p t at_p audio_t t ∙ ap (λ n. (get_or tracks n t).codecs) codes
-      ∙ sym (own_codes q u at_q audio_u t) in
+      let codecs : t.codecs ≡ u.codecs = same_codecs tracks p q t u at_p at_q audio_t audio_u codes in
       let same : count_by (alike t.set t.codecs) (take q tracks) ≡ count_by (alike u.set u.codecs) (take q tracks) =
       rw (set, codecs) refl in
       omega (arith, rank_below p q t at_p audio_t less (le_of_lt (slice_get_within tracks q u at_q)), rank, same)

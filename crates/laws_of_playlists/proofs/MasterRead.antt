@@ -19,7 +19,8 @@ use Rattle.laws_of_playlists.specs.Tracks.{AreWritable, HaveOneLanguage}
 use Rattle.laws_of_playlists.proofs.{WrittenLines.weaker, MasterLabels.{AreFitLabels, fit_labels, name_text, names_apart}}
 use Rattle.laws_of_playlists.proofs.MasterLaid.{IsFiller, fillers_are, grouped_as, laid, own_number, own_number_is, sounds_audio, text_at}
 use Rattle.laws_of_playlists.proofs.{MasterLaid.texts_are, MasterLines.{all_readable, lines_behind, mentioned}}
-use Rattle.laws_of_playlists.proofs.{MasterLists.{all_map, all_weaker}, MasterNames.{by_name, decimal_digits, is_digit}}
+use Rattle.laws_of_playlists.proofs.{MasterNames.{by_name, decimal_digits, is_digit}}
+use Rattle.audio_groups.proofs.Lists.{all_map, all_weaker}
 use Rattle.laws_of_playlists.proofs.{MasterNumbers.{number_apart, number_few, number_of}, MasterOrder.{AreApart, AreTold, address_at}}
 use Rattle.laws_of_playlists.proofs.MasterTold.{AreAddressesApart, IsAudioAt, a, audios_at, map_twice, t, text_behind, texts_at}
 use Rattle.laws_of_playlists.proofs.{MasterTold.{told, v}, MasterTags.seen, MasterVariants.mention_videos}

@@ -8,7 +8,7 @@ use Rattle.bridge_io.specs.{declared.media.Kind.Kind, declared.media.Kind.TheVar
 use Rattle.hls_master.specs.{Renditions.same_kind, Tracks.{Mentioned, by_rendition, by_variant, address_of, by_kind, has_kind, kind_of}}
 use Rattle.hls_master.specs.{Tracks.{same_set, sets_behind, track_of, tracks_among, tracks_of_sets, variant_kind}, Variants.VariantValue}
 use Rattle.laws_of_playlists.specs.Master.{Head, head_of}
-use Rattle.laws_of_playlists.proofs.MasterLists.{all_append, all_weaker}
+use Rattle.audio_groups.proofs.Lists.{all_append, all_weaker}
 
 -- what a mention tells of its track
 abbrev pub language_of : Mentioned → Option (List ℕ)

@@ -22,7 +22,8 @@ use Rattle.laws_of_playlists.specs.Tracks.{AreOwnCodes, IsTold}
 use Rattle.laws_of_playlists.proofs.{WrittenLines.weaker, MasterTypes.{IsKnown, Purpose, Rendition, RenditionGroup, RenditionName}}
 use Rattle.laws_of_playlists.proofs.MasterTypes.{audio_group, of_known, text_group}
 use Rattle.laws_of_playlists.proofs.{MasterAttributes.{IsCarried, IsFine, attributes_are, carried_append, is_carried, pair_of}}
-use Rattle.laws_of_playlists.proofs.{MasterLabels.{AreFitLabels, name_fine, pair_is}, MasterLists.all_append}
+use Rattle.laws_of_playlists.proofs.{MasterLabels.{AreFitLabels, name_fine, pair_is}}
+use Rattle.audio_groups.proofs.Lists.{all_append}
 
 -- ---- the characters of languages and codes
 

@@ -12,12 +12,14 @@ use Rattle.hls_master.specs.Tracks.{Mentioned, by_rendition, by_variant, by_kind
 use Rattle.hls_master.specs.{Tracks.{tracks_among, tracks_of}, Variants.VariantValue}
 use Rattle.hls_writer.specs.{Attributes.playlist_name, Renditions.places_of}
 use Rattle.laws_of_playlists.proofs.MasterFirsts.{AreFree, IsVideoAt, IsWithin, Stand, all_firsts, free_before, seen_audio, seen_then}
-use Rattle.laws_of_playlists.proofs.{MasterLists.{all_map, all_weaker}, MasterNumbers.IsAudio}
+use Rattle.laws_of_playlists.proofs.{MasterNumbers.IsAudio}
+use Rattle.audio_groups.proofs.Lists.{all_map, all_weaker}
 use Rattle.laws_of_playlists.proofs.MasterOrder.{AreInOrder, AreOf, AreShown, AreTold, Good, address_at, audio_places, audios_in_order}
 use Rattle.laws_of_playlists.proofs.MasterOrder.{most, of_kind, order_weaker, own_mention, owns_shown, rising, same_sets, shown_append}
 use Rattle.laws_of_playlists.proofs.MasterOrder.{shown_heads, shown_kinds, shown_length, shown_stand, text_places, texts_in_order}
 use Rattle.laws_of_playlists.proofs.MasterOrder.{video_places, videos_in_order, videos_shown}
-use Rattle.laws_of_playlists.proofs.{MasterPlaces.{Follow, follow}, MasterSets.{mention_head, told_in_order}}
+use Rattle.audio_groups.proofs.Places.{Follow, follow}
+use Rattle.laws_of_playlists.proofs.MasterSets.{mention_head, told_in_order}
 use Rattle.presentation.specs.{declared.track.Track.Track, Order.is_of}
 use Rattle.audio_groups.specs.Groups.{is_audio}
 use Rattle.laws_of_playlists.specs.Master.{head_of, heads_from}

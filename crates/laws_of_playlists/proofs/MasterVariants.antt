@@ -12,9 +12,10 @@ use Rattle.track_hints.specs.declared.hints.Hints.{Hints}
 use Rattle.std.proofs.lemmas.List.{map-append}
 use Rattle.presentation.specs.declared.track.Track.{Track}
 use Rattle.laws_of_playlists.specs.Tracks.{AreOwnCodes, AreWritable, IsTold}
-use Rattle.laws_of_playlists.proofs.{MasterTypes.Variant, MasterCodes.video_is_told, MasterNumbers.IsAudio, MasterPlaces.Follow}
+use Rattle.laws_of_playlists.proofs.{MasterTypes.Variant, MasterCodes.video_is_told, MasterNumbers.IsAudio}
+use Rattle.audio_groups.proofs.Places.{Follow}
 use Rattle.laws_of_playlists.proofs.MasterFirsts.{AreFree, IsVideoAt, IsWithin, first_block, first_videos, nothing_new}
-use Rattle.laws_of_playlists.proofs.MasterLists.{all_append, all_map, all_of, all_weaker, zip_parts}
+use Rattle.audio_groups.proofs.Lists.{all_append, all_map, all_of, all_weaker, zip_parts}
 use Rattle.laws_of_playlists.proofs.MasterOrder.{AreOf, address_at}
 use Rattle.laws_of_playlists.proofs.MasterTold.{AreAddressesApart, MentionVideos, a, each_of, few, follow_videos, v, videos, videos_at}
 use Rattle.laws_of_playlists.proofs.MasterTold.{within_audios}

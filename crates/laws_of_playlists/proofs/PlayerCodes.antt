@@ -7,7 +7,8 @@ use Rattle.presentation.specs.declared.track.Track.{Track}
 use Rattle.audio_groups.specs.Groups.{same_text}
 use Rattle.hls_writer.specs.Variants.{cast_of, codecs_at, codes_from, codes_in, codes_of, variants_of, with_code, with_codes}
 use Rattle.laws_of_playlists.specs.Players.{HaveCode, IsAmong, LackCodecs, TellsCodesOf, VariantsTellTheirCodes}
-use Rattle.laws_of_playlists.proofs.{MasterLaid.laid, MasterLists.all_of, PlayerLists.{among_back, among_front}}
+use Rattle.laws_of_playlists.proofs.{MasterLaid.laid, PlayerLists.{among_back, among_front}}
+use Rattle.audio_groups.proofs.Lists.{all_of}
 
 among_either : {X : Type 0} (x : X) (xs ys : List X) → IsAmong x (xs ++ ys) → IsAmong x xs ⊎ IsAmong x ys
 among_either x [] ys is = inr is

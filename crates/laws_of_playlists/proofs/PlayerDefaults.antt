@@ -13,7 +13,8 @@ use Rattle.hls_writer.specs.{Menus.main_member, Renditions.{LaidOut, audio_rendi
 use Rattle.hls_writer.specs.Renditions.{members_in, own_rendition, own_renditions, places_from, places_of, rendition_of, renditions_of}
 use Rattle.hls_writer.specs.Renditions.{text_from, text_rendition, with_one}
 use Rattle.laws_of_playlists.specs.Players.{DefaultsArePlayed, DefaultsAreSingle, HasOneDefault, IsAmong, IsTrack}
-use Rattle.laws_of_playlists.proofs.{MasterLaid.{groups_are, laid}, MasterLists.{all_append, all_map, all_of, all_weaker}}
+use Rattle.laws_of_playlists.proofs.{MasterLaid.{groups_are, laid}}
+use Rattle.audio_groups.proofs.Lists.{all_append, all_map, all_of, all_weaker}
 use Rattle.laws_of_playlists.proofs.MasterNumbers.{IsAudio, IsAudioIfSome, groups_apart, groups_some}
 use Rattle.laws_of_playlists.proofs.MasterTypes.{Rendition, RenditionGroup}
 use Rattle.laws_of_playlists.proofs.PlayerLists.{count_among, count_append, count_cons, count_map, count_none, count_pushed}

@@ -6,7 +6,7 @@ use Rattle.bridge_io.specs.declared.media.Kind.{Kind, TheVariants.{Video, Audio,
 use Rattle.presentation.specs.{declared.track.Track.Track, Order.is_of}
 use Rattle.hls_writer.specs.{Finished.{greatest_from, own_target, shared_target}}
 use Rattle.laws_of_playlists.specs.Players.{IsSeenOrHeard, TargetsAreShared}
-use Rattle.laws_of_playlists.proofs.MasterPlaces.{Follow, follow}
+use Rattle.audio_groups.proofs.Places.{Follow, follow}
 
 no_text : (tracks : List Track) (place : ℕ) (track : Track) → slice_get tracks place ≡ Some track → is_of Text track.kind ≡ false
     → IsSeenOrHeard tracks place

@@ -15,7 +15,8 @@ use Rattle.hls_writer.specs.Variants.{frame_rate_at, of_captions, of_rate, of_so
 use Rattle.hls_writer.specs.Variants.{choices, numbers_from, of_texts, sound_variant, sound_variants, variant_attributes, variants_of}
 use Rattle.hls_writer.specs.Variants.{variants_with, video_variant}
 use Rattle.laws_of_playlists.specs.Players.{HasAllTracks, IsAmong, IsTrack, NoTrackIsMissing}
-use Rattle.laws_of_playlists.proofs.{MasterLaid.{grouped_as, laid}, MasterLists.all_of, MasterNumbers.is_member}
+use Rattle.laws_of_playlists.proofs.{MasterLaid.{grouped_as, laid}, MasterNumbers.is_member}
+use Rattle.audio_groups.proofs.Lists.{all_of}
 use Rattle.laws_of_playlists.proofs.MasterTypes.{Rendition, Variant}
 use Rattle.laws_of_playlists.proofs.PlayerLists.{among_back, among_flat, among_front, among_map, among_present}
 

@@ -17,6 +17,7 @@ use std::marker::Model;
 use timeline::{
     AddressWriter, Cursor, ListFault, Listing, Runs, Segment, Span, SpanRun, TimeWalk, Window,
 };
+use url_parts::Spelling;
 
 /// An iterator over the listed segments of a track in a section, with their printed durations. Printed durations never
 /// drift: up to each segment they sum to the exact time from the first one's start to that segment's end, rounded down.
@@ -192,11 +193,16 @@ impl<'a> PrintedSegments<'a> {
         Some((span, duration))
     }
 
-    /// A writer of the segments' URLs.
-    pub fn addresses(&self, alloc: Global) -> Result<AddressWriter<'a>, NoMemory>
-        ensures { IfOk result (λ addresses. addresses.timeline ≡ self.now.timeline) }
+    /// A writer of the segments' URLs, spelled so.
+    pub fn addresses(
+        &self,
+        alloc: Global,
+        spelling: &'a Spelling,
+    ) -> Result<AddressWriter<'a>, NoMemory>
+        ensures timeline { IfOk result (λ addresses. addresses.timeline ≡ self.now.timeline) }
+        ensures place { IfOk result (λ addresses. addresses.place ≡ spelling.now) }
     {
-        self.listing.addresses(alloc)
+        self.listing.addresses(alloc, spelling)
     }
 
     /// Whether each segment's name is a valid file name in one folder, so that no URL is rejected.

@@ -5,8 +5,8 @@ use Rattle.std.specs.{Prelude.{IfSome, nat_le, nat_lt, None}, Result.{IsErr, IsE
 use Rattle.bridge_io.specs.{Answer.Gives, Names.is_name}
 use Rattle.url_parts.specs.{Addresses.{refusal, resolve, IsAddress, IsBase, folder_of}, declared.address.Part.Part}
 use Rattle.url_parts.specs.{declared.range.Range.Range, declared.fault.UrlFault.UrlFault, declared.fault.UrlFault.TheVariants.Memory}
-use Rattle.timeline.specs.{declared.fault.ListFault.ListFault, declared.names.Names.TheVariants.Template, Names.list_refusal}
-use Rattle.timeline.specs.{Names.{list_fault_of, part_at}, FileNames.{AreInFolder, are_files}}
+use Rattle.timeline.specs.{declared.fault.ListFault.ListFault, declared.names.Names.{Names, TheVariants.{Template, List as Listed, Shared, Addresses}}, Names.list_refusal}
+use Rattle.timeline.specs.{Names.{list_fault_of, part_at}, FileNames.{AreInFolder, AreNames, are_files}}
 use Rattle.template_ids.specs.Templates.{named}
 use Rattle.template_ids.proofs.FileNames.{each_names}
 use Rattle.url_parts.proofs.{Bases.folder_of-take, Relative.resolve_name}
@@ -43,3 +43,11 @@ in_folder media id bandwidth base is files place number time low early =
     let fits : nat_lt 2048 (length (folder_of base ++ name)) ≡ false = let shorter = short base in let room = both.0 in
     let sum = length-append (folder_of base) name in grind (arith, nat_tests) in
     ap (part_at None) (resolve_name base name is is_file ∙ cond-false _ _ _ fits)
+
+-- they are valid file names
+pub names_valid : (names : Names) → are_files names ≡ true → AreNames names
+names_valid (Template media id bandwidth base) files = λ number time low early.
+    each_names media (record { id = id; bandwidth = bandwidth; number = number; time = time }) low early (and_parts _ _ files).1
+names_valid (Listed parts base) files = cc
+names_valid (Shared parts base) files = cc
+names_valid (Addresses parts) files = cc

@@ -1,5 +1,6 @@
 -- Names of files in one folder, for all numbers and times.
-use Rattle.std.specs.Prelude.{◌≡◌, ℕ, ◌<◌, ◌^◌, ◌&&◌, ◌++◌, nat_le, Bool, false, List, [], length, string_bytes, None, Ok}
+use Rattle.std.specs.Prelude.{◌≡◌, ℕ, ◌<◌, ◌^◌, ◌&&◌, ◌++◌, nat_le, Bool, true, false, List, [], length, string_bytes, None, Ok}
+use Rattle.bridge_io.specs.Names.{is_name}
 use Rattle.template_ids.specs.{Templates.named, FileNames.names_files, Filled.name_of}
 use Rattle.url_parts.specs.Addresses.{folder_of}
 use Rattle.timeline.specs.{declared.names.Files.Files, declared.names.Names.Names, declared.names.Names.TheVariants.{Template, List as Listed}}
@@ -34,8 +35,13 @@ abbrev pub AreInFolder : Names → Type 0
 AreInFolder names = (place number time : ℕ) → number < 2 ^ 64 → time < 2 ^ 64 →
     part_of names place number time ≡ Ok (record { address = folder_of_names names ++ file_name names number time; range = None })
 
+-- each name is a valid file name
+abbrev pub AreNames : Names → Type 0
+AreNames names = (number time : ℕ) → number < 2 ^ 64 → time < 2 ^ 64 → is_name (file_name names number time) ≡ true
+
 -- a folder's text, and the names in it
 pub record AreFilesOf (names : Names) (files : Files) : Type 0 where
   pub folder : string_bytes files.folder ≡ folder_of_names names
   pub names_are : (number time : ℕ) → name_of files.names number time ≡ file_name names number time
   pub addressed : AreInFolder names
+  pub named : AreNames names

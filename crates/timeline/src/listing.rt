@@ -10,7 +10,7 @@ use crate::{AddressWriter, ListFault, Runs, Span, TimeWalk};
 use bridge_io::{Ledger, NoMemory, Steps};
 use std::alloc::Global;
 use std::marker::Model;
-use url_parts::{Address, Part, Range};
+use url_parts::{Address, Part, Range, Spelling};
 
 /// A segment: its URL, its byte range and its times. Only a `Listing` makes one.
 #[derive(Drop)]
@@ -144,11 +144,16 @@ impl<'a> Listing<'a> {
         runs.names.are_files(alloc)
     }
 
-    /// A writer of the segments' URLs.
-    pub fn addresses(&self, alloc: Global) -> Result<AddressWriter<'a>, NoMemory>
-        ensures { IfOk result (λ addresses. addresses.timeline ≡ self.now.timeline) }
+    /// A writer of the segments' URLs, spelled so.
+    pub fn addresses(
+        &self,
+        alloc: Global,
+        spelling: &'a Spelling,
+    ) -> Result<AddressWriter<'a>, NoMemory>
+        ensures timeline { IfOk result (λ addresses. addresses.timeline ≡ self.now.timeline) }
+        ensures place { IfOk result (λ addresses. addresses.place ≡ spelling.now) }
     {
-        AddressWriter::over(alloc, self.runs)
+        AddressWriter::over(alloc, self.runs, spelling)
     }
 }
 

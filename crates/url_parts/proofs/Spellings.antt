@@ -1,18 +1,18 @@
 -- How URLs are spelled beside a playlist.
-use Rattle.std.proofs.Common.{◌≡◌, ◌≢◌, ℕ, ◌≤◌, ◌==◌, Bool, true, false, List, [], ◌∷◌, ◌++◌, length, drop, Result}
+use Rattle.std.proofs.Common.{◌≡◌, ◌≢◌, ℕ, ◌+◌, ◌≤◌, ◌==◌, arith, append_assoc, length-append, Bool, true, false, List, [], ◌∷◌, ◌++◌, length, drop, Result}
 use Rattle.std.proofs.Common.{Ok, Err, Some, None, Option, Bor}
 use Rattle.std.proofs.{Common.{refl, sym, ap, subst, ◌∙◌, ⊎_elim, if◌then◌else◌}, lemmas.Bool.{and_parts, cases_Bool}}
-use Rattle.std.proofs.lemmas.Bool.{cond-false, cond_both, le-ltb}
+use Rattle.std.proofs.lemmas.Bool.{cond-false, cond_both, le-ltb, Decides.nat_tests}
 use Rattle.std.proofs.lemmas.{Bool.Decides.Decides-eqb, List.drop_at, List.Elements.All-drop, List.Folds.list_all-append}
 use Rattle.std.proofs.lemmas.Slice.Eq.{starts_is, bytes_eq-Decides}
-use Rattle.std.specs.{Prelude.{bytes_eq, nat_eq, not, codes}, List.{flat_map, list_all, starts_with}, Option.option_copied, Bool.then_some}
+use Rattle.std.specs.{Prelude.{bytes_eq, nat_eq, nat_le, not, codes}, List.{flat_map, list_all, starts_with}, Option.option_copied, Bool.then_some}
 use Rattle.url.proofs.InputLemmas.{Passes, All_from_list_all, list_all_from_All}
-use Rattle.bridge_io.specs.Names.{is_name, parts_after}
+use Rattle.bridge_io.specs.Names.{is_name, is_name_byte, is_proper_part, parts_after}
 use Rattle.url_parts.specs.Paths.{IsBeneath}
 use Rattle.url_parts.proofs.Relative.{name_is_path, name_is_plain, resolve_plain}
 use Rattle.url_parts.specs.declared.fault.UrlFault.{UrlFault}
 use Rattle.url_parts.specs.Addresses.{absolute, folder_of, is_absolute, is_address_byte, resolve, unless_long, IsAddress, IsBase}
-use Rattle.url_parts.specs.Spelling.{PlaylistPlace, ReachesNames, StandsFor, begins_uri, is_given, is_relative, place_of, playlist_url}
+use Rattle.url_parts.specs.Spelling.{IsInner, PlaylistPlace, ReachesNames, StandsFor, begins_uri, is_given, is_relative, place_of, playlist_url}
 use Rattle.url_parts.specs.Spelling.{reference_of, rest_of, spelled, spelled_beside, steps_up}
 use Rattle.url_parts.proofs.{Bases.bytes_from_accepted, Parsed.{address_is_base, given_again}}
 
@@ -65,6 +65,86 @@ rest_named place address rest reaches whole named short =
     ∙ cond-false _ _ _ (le-ltb 2048 (length address) short) in
     rest_inside place address (place.up ++ rest) rest true whole refl
     (sym (ap (is_given address) gives ∙ (bytes_eq-Decides address address).1 refl))
+
+-- the parts before and behind a `/`
+parts_around : (front one other : List ℕ) → parts_after front (one ++ 47 ∷ other) ≡ parts_after front one ++ parts_after [] other
+parts_around front [] other = refl
+parts_around front (b ∷ bs) other =
+    elim (b == 47) as (λ t. (if t then front ∷ parts_after [] (bs ++ 47 ∷ other) else parts_after (front ++ b ∷ []) (bs ++ 47 ∷ other))
+    ≡ (if t then front ∷ parts_after [] bs else parts_after (front ++ b ∷ []) bs) ++ parts_after [] other) [
+      | true ↦ ap (λ t. front ∷ t) (parts_around [] bs other)
+      | false ↦ parts_around (front ++ b ∷ []) bs other
+    ]
+
+pub has_bytes : (name : List ℕ) → is_name name ≡ true → 1 ≤ length name
+has_bytes name named =
+    let first : nat_le 1 (length name) ≡ true = (and_parts _ _ (and_parts _ _ (and_parts _ _ named).0).0).0 in
+    grind (arith, nat_tests)
+
+-- two names with a `/` between them are a name
+between : (one other : List ℕ) → is_name one ≡ true → is_name other ≡ true → length one + 1 + length other ≤ 255
+    → is_name (one ++ 47 ∷ other) ≡ true
+between one other first second fits =
+    let a = and_parts _ _ first in let b = and_parts _ _ second in
+    let one_bytes : list_all is_name_byte one ≡ true = (and_parts _ _ a.0).1 in
+    let other_bytes : list_all is_name_byte other ≡ true = (and_parts _ _ b.0).1 in
+    let one_parts : list_all is_proper_part (parts_after [] one) ≡ true = a.1 in
+    let bytes : list_all is_name_byte (one ++ 47 ∷ other) ≡ true =
+    rw (list_all-append is_name_byte one (47 ∷ other), one_bytes) other_bytes in
+    let parts : list_all is_proper_part (parts_after [] (one ++ 47 ∷ other)) ≡ true =
+    rw (parts_around [] one other, list_all-append is_proper_part (parts_after [] one) (parts_after [] other), one_parts) b.1 in
+    let sum = length-append one (47 ∷ other) in
+    let long : nat_le 1 (length (one ++ 47 ∷ other)) ≡ true = grind (arith, nat_tests) in
+    let short : nat_le (length (one ++ 47 ∷ other)) 255 ≡ true = grind (arith, nat_tests) in
+    rw (long, short, bytes, parts) refl
+
+inner_named : (inner name : List ℕ) → IsInner inner → is_name name ≡ true → length inner + length name ≤ 255 → is_name (inner ++ name) ≡ true
+inner_named inner name is named fits = ⊎_elim
+    (λ empty. rw empty named)
+    (λ (there : (parts : List ℕ) × ((inner ≡ parts ++ 47 ∷ []) × (is_name parts ≡ true))).
+    let sum = ap length there.1.0 ∙ length-append there.0 (47 ∷ []) in
+    rw (there.1.0, append_assoc there.0 (47 ∷ []) name) (between there.0 name there.1.1 named (omega (arith, sum, fits))))
+    is
+
+-- names of the folder's, or beneath, are spelled behind the steps up
+pub names_spelled : (place : PlaylistPlace) (folder inner : List ℕ) → ReachesNames place → folder ≡ place.folder ++ inner → IsInner inner
+    → length folder ≤ 1793 → (name : List ℕ) → is_name name ≡ true → length inner + length name ≤ 255
+    → spelled_beside place (folder ++ name) ≡ (place.up ++ inner) ++ name
+unfolding spelled_beside
+names_spelled place folder inner reaches whole is short name named fits =
+    let address = folder ++ name in
+    let rest = inner ++ name in
+    let at : address ≡ place.folder ++ rest = ap (λ t. t ++ name) whole ∙ append_assoc place.folder inner name in
+    let begins = (starts_is Decides-eqb address place.folder (starts_with nat_eq address place.folder) refl).1 rest at in
+    let back : drop (length place.folder) address ≡ rest = ap (drop (length place.folder)) at ∙ drop_at place.folder rest _ refl in
+    let sum = length-append folder name in
+    let small : length address ≤ 2048 = omega (arith, sum, short, fits) in
+    let gives : resolve place.url (place.up ++ rest) ≡ Ok address = reaches rest (inner_named inner name is named fits)
+    ∙ ap unless_long (sym at) ∙ cond-false _ _ _ (le-ltb 2048 (length address) small) in
+    rw (begins, back, gives, (bytes_eq-Decides address address).1 refl) (sym (append_assoc place.up inner name))
+
+-- a text that another one begins, and is as long at least, is begun by a third that begins the whole
+begun_by : (folder name base rest : List ℕ) → length base ≤ length folder → folder ++ name ≡ base ++ rest
+    → (inner : List ℕ) × (folder ≡ base ++ inner)
+begun_by folder name [] rest fits is = (folder, refl)
+begun_by [] name (b ∷ bs) rest fits is = absurd (omega (arith, fits))
+begun_by (f ∷ fs) name (b ∷ bs) rest fits is =
+    let head : f ≡ b = cc in
+    let tail : fs ++ name ≡ bs ++ rest = cc in
+    let later = begun_by fs name bs rest (omega (arith, fits)) tail in
+    (later.0, ap (λ h. h ∷ fs) head ∙ ap (λ t. b ∷ t) later.1)
+
+-- names in a folder outside the base's stay absolute
+pub outside_stays : (place : PlaylistPlace) (folder : List ℕ) → ((inner : List ℕ) → folder ≢ place.folder ++ inner)
+    → length place.folder ≤ length folder → (name : List ℕ) → spelled_beside place (folder ++ name) ≡ folder ++ name
+unfolding spelled_beside
+outside_stays place folder never fits name =
+    let address = folder ++ name in
+    ⊎_elim
+    (λ begins. absurd (let whole = (starts_is Decides-eqb address place.folder (starts_with nat_eq address place.folder) refl).0 begins in
+    let inner = begun_by folder name place.folder (drop (length place.folder) address) fits whole in never inner.0 inner.1))
+    (λ other. rw other refl)
+    (cases_Bool (starts_with nat_eq address place.folder))
 
 picked : (given : Bool) (place : PlaylistPlace) → given ≡ true → (if given then Some place else None) ≡ Some place
 picked given place is = rw is refl

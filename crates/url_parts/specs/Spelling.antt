@@ -1,8 +1,8 @@
 -- The spelling of URLs in a written playlist: absolute, or relative to the playlist where that gives the same URL.
-use Rattle.std.specs.Prelude.{◌≡◌, ℕ, nat_eq, ◌==◌, ◌&&◌, not, Bool, true, false, List, [], ◌∷◌, ◌++◌, length, drop, codes}
+use Rattle.std.specs.Prelude.{◌≡◌, ◌⊎◌, ◌≤◌, ℕ, nat_eq, ◌==◌, ◌&&◌, not, Bool, true, false, List, [], ◌∷◌, ◌++◌, length, drop, codes}
 use Rattle.std.specs.{Prelude.{bytes_eq, if◌then◌else◌, Result, Ok, Err, Option, Some, None}, List.{flat_map, list_all, starts_with}}
 use Rattle.bridge_io.specs.Names.{is_name, parts_after}
-use Rattle.url_parts.specs.{Addresses.{absolute, is_address_byte, resolve, unless_long}, declared.fault.UrlFault.UrlFault}
+use Rattle.url_parts.specs.{Addresses.{absolute, is_address_byte, resolve, unless_long}, declared.fault.UrlFault.UrlFault, declared.spelling.Front.Front}
 
 -- where a playlist is written: the text that URLs of its folder begin with, the steps from the playlist up to that folder,
 -- and the playlist's own URL
@@ -54,6 +54,15 @@ spelled (Some place) address = spelled_beside place address
 -- the steps up from a playlist, and then a name, give what the folder's text and the name spell
 abbrev pub ReachesNames : PlaylistPlace → Type 0
 ReachesNames place = (name : List ℕ) → is_name name ≡ true → resolve place.url (place.up ++ name) ≡ unless_long (place.folder ++ name)
+
+-- a text is empty, or a name with a `/` behind it
+abbrev pub IsInner : List ℕ → Type 0
+IsInner text = (text ≡ []) ⊎ ((parts : List ℕ) × ((text ≡ parts ++ 47 ∷ []) × (is_name parts ≡ true)))
+
+-- a text before names of so many bytes at most spells a folder's text
+abbrev pub SpellsNames : Option PlaylistPlace → (folder : List ℕ) → Front → Type 0
+SpellsNames place folder front = (name : List ℕ) → is_name name ≡ true → length name ≤ front.most
+    → spelled place (folder ++ name) ≡ front.text ++ name
 
 -- a line of a playlist that begins so is a URI: it isn't empty, and doesn't begin with `#`
 abbrev pub begins_uri : List ℕ → Bool

@@ -20,7 +20,7 @@ use url::{ParseResult, Url};
 pub(crate) const MAX_LEN: usize = 2048;
 
 /// The most bytes that a name has.
-const MAX_NAME_LEN: usize = 255;
+pub(crate) const MAX_NAME_LEN: usize = 255;
 
 /// A URL against which references are resolved (RFC 3986, 5.1; ISO/IEC 23009-1, 5.6.4).
 ///

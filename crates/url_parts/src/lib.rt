@@ -16,4 +16,4 @@ pub use code::{CodeClass, code_class};
 pub use fault::UrlFault;
 pub use range::{Range, read_range};
 pub use resolver::Resolver;
-pub use spelling::{Reference, Spelling};
+pub use spelling::{Front, Reference, Spelling};

@@ -1,10 +1,11 @@
 // The spelling of URLs in a written playlist.
-ghost use Rattle.std.specs.Prelude.{◌≡◌, ◌++◌, true, IfOk, None, Some, if◌then◌else◌};
+ghost use Rattle.std.specs.Prelude.{◌≡◌, ◌++◌, true, IfOk, IfSome, None, Some, if◌then◌else◌};
 ghost use Rattle.std.specs.Option.{option_copied};
 ghost use Rattle.url_parts.specs.Addresses.{absolute, resolve};
-ghost use Rattle.url_parts.specs.Spelling.{ReachesNames, is_given, place_of, rest_of, spelled, spelled_beside, steps_up};
+ghost use Rattle.url_parts.specs.Spelling.{IsInner, ReachesNames, SpellsNames, is_given, place_of, rest_of, spelled, spelled_beside};
+ghost use Rattle.url_parts.specs.Spelling.{steps_up};
 
-use crate::base::{MAX_LEN, folder_of};
+use crate::base::{MAX_LEN, MAX_NAME_LEN, folder_of};
 use crate::{Base, UrlFault};
 use bridge_io::{Name, NoMemory, Text, is_name};
 use std::alloc::Global;
@@ -75,6 +76,36 @@ impl Spelling {
             None => Ok(Reference::absolute(address)),
             Some(playlist) => playlist.reference(alloc, address),
         }
+    }
+
+    /// What is before the names in a folder, where it is one text for all of them, so that no name is tested.
+    pub fn front(&self, alloc: Global, folder: &str) -> Result<Option<Front>, NoMemory>
+        ensures { IfOk result (λ front. IfSome front (SpellsNames self.now folder.now)) }
+    {
+        match &self.playlist {
+            None => Ok(Some(Front::of_folder(alloc, folder)?)),
+            Some(playlist) => playlist.front(alloc, folder),
+        }
+    }
+}
+
+/// What a playlist has before the names in a folder.
+#[derive(Drop)]
+pub struct Front {
+    pub text: Text,
+    /// The most bytes of a name that it is for.
+    pub most: usize,
+}
+
+impl Front {
+    /// The folder itself, where URLs are absolute.
+    fn of_folder(alloc: Global, folder: &str) -> Result<Front, NoMemory>
+        ensures { IfOk result (λ front. front.text ≡ folder.now) }
+    {
+        Ok(Front {
+            text: Text::copy_of(alloc, folder)?,
+            most: MAX_NAME_LEN,
+        })
     }
 }
 
@@ -148,6 +179,38 @@ impl Playlist {
         let up = self.up.as_str();
         let reference = format!(in alloc; "{up}{rest}")?;
         Ok(gives(alloc, &self.url, reference.as_str(), address)?.then_some(rest))
+    }
+
+    /// What is before the names in a folder.
+    fn front(&self, alloc: Global, folder: &str) -> Result<Option<Front>, NoMemory>
+        ensures { IfOk result (λ front. IfSome front (SpellsNames (Some self.now) folder.now)) }
+    {
+        let base = self.folder.as_str();
+        let Some(inner) = folder.strip_prefix(base) else {
+            if folder.len() < base.len() {
+                return Ok(None);
+            }
+            return Ok(Some(Front::of_folder(alloc, folder)?));
+        };
+        if !self.reaches || folder.len() > MAX_LEN - MAX_NAME_LEN || !is_inner(inner) {
+            return Ok(None);
+        }
+        let up = self.up.as_str();
+        let text = format!(in alloc; "{up}{inner}")?;
+        Ok(Some(Front {
+            text: Text::from(text),
+            most: MAX_NAME_LEN.saturating_sub(inner.len()),
+        }))
+    }
+}
+
+/// Whether a text is empty, or a name with a `/` behind it.
+fn is_inner(text: &str) -> bool
+    ensures { result ≡ true → IsInner text.now }
+{
+    match text.strip_suffix("/") {
+        Some(parts) => is_name(parts.as_bytes()),
+        None => text.is_empty(),
     }
 }
 

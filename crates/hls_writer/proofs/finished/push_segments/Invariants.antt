@@ -12,6 +12,7 @@ invariant-loop-span g l =
     let left = spell (items_at l.segments.timeline l.place.map.now l.place.section l.segments.left) in
     record {
       timeline : l.addresses.timeline ≡ l.segments.timeline;
+      spelling : l.addresses.place ≡ l.place.spelling.now;
       addressed : All (λ x. HasAddress l.segments.timeline x.times) l.segments.left;
       done : (done : List ℕ)
           × (done ++ lines_text (items_lines l.place.digits l.former left) ≡ lines_text (items_lines l.place.digits l.initial.former all))

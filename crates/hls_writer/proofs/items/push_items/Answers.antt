@@ -10,12 +10,11 @@ loop-item-preserved g c =
     let item = c.item-item.result in
     let written = spelled_item c.args.spelling.now (item_of item) in
     let left = left_is c.args.items.now l.item-index item c.loop-item-test.true c.item-item.is in
-    let same = ap (λ s. lines_text (item_lines c.args.digits l.former s)) c.entry.ensures in
     record {
       done = (
         l.invariant.done.0 ++ lines_text (item_lines c.args.digits l.former written),
         one_more c.args.digits l.former written _ l.invariant.done.0 _ (rw left at l.invariant.done.1),
-        adds_then _ l.invariant.done.2 (adds_same same c.in_ok-push_to.ensures),
+        adds_then _ l.invariant.done.2 c.in_ok-push_to.ensures,
       );
       last = rw left at l.invariant.last;
     }
@@ -26,7 +25,5 @@ returns-in_err-push_to-clause-adds g c =
     let item = c.item-item.result in
     let written = spelled_item c.args.spelling.now (item_of item) in
     let left = left_is c.args.items.now l.item-index item c.loop-item-test.true c.item-item.is in
-    let same = ap (λ s. lines_text (item_lines c.args.digits l.former s)) c.entry.ensures in
     adds_same (one_more c.args.digits l.former written _ l.invariant.done.0 _ (rw left at l.invariant.done.1))
-    (adds_stop_at _ c.from_residual.result c.from_residual.ensures.1 (adds_then _ l.invariant.done.2
-    (adds_same same c.in_err-push_to.ensures)))
+    (adds_stop_at _ c.from_residual.result c.from_residual.ensures.1 (adds_then _ l.invariant.done.2 c.in_err-push_to.ensures))

@@ -18,4 +18,4 @@ returns-in_err-push_range g c =
 
 pub returns : goal.returns
 returns g c = adds_same (last_text c.args.digits (entry_item c.args.self.now))
-    (adds_then _ (adds_then _ c.in_ok-push_duration.ensures c.in_ok-push_range.ensures) c.push_address.ensures)
+    (adds_then _ (adds_then _ c.in_ok-push_duration.ensures c.in_ok-push_range.ensures) c.push_uri.ensures)

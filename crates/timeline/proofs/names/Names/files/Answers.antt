@@ -1,6 +1,7 @@
-use Rattle.std.proofs.Common.{◌≡◌, ◌∙◌, ap, true, arith}
+use Rattle.std.proofs.Common.{◌≡◌, ◌∙◌, ap, sym, true, arith}
 use Rattle.std.proofs.lemmas.Bool.Decides.{nat_tests}
 use Rattle.template_ids.specs.{Templates.named, Filled.ids_with}
+use Rattle.timeline.proofs.Naming.{names_valid}
 use Rattle.timeline.proofs.names.Names.files.Goals as goal
 
 pub returns-in_ok-names-in-Template : goal.returns-in_ok-names-in-Template
@@ -12,4 +13,5 @@ returns-in_ok-names-in-Template c =
       names_are = λ number time. rw t.is (c.in_ok-names-in-Template.ensures number time
           ∙ ap (λ id. named t.media (ids_with id t.bandwidth number time)) c.as_str.ensures);
       addressed = c.in_ok-are_files.ensures.named files;
+      named = names_valid c.args.self.now (sym c.in_ok-are_files.ensures.told ∙ files);
     }
