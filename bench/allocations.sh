@@ -1,9 +1,10 @@
 #!/usr/bin/env bash
 # Refuses each allocation of `bridge` in turn: those of `hls` over one Period and over two, of `hls-index`, `dash`, `dash-times`, `show`,
-# `check`, `agree` and `reload`, of `follow` over an MPD, an instant, a refused address and a reset, and of `follow-hls` over three rounds,
-# of which one is refused. Each run ends as one whose memory is ample, with the same lines and the same files, or as 5, with each file a
-# front of its text, none begun before the one in front of it is whole, and no other file; of what is followed, with the lines and files of
-# the frames so far, and such fronts of the next one's. A run that does anything else is told, and the script's status is then 1.
+# `check`, `agree` and `reload`, of `follow` over an MPD, an instant, a refused address and a reset, and of `follow-hls` and
+# `follow-hls-times` over three and four rounds, of which one and two are refused. Each run ends as one whose memory is ample, with the same
+# lines and the same files, or as 5, with each file a front of its text, none begun before the one in front of it is whole, and no other
+# file; of what is followed, with the lines and files of the frames so far, and such fronts of the next one's. A run that does anything else
+# is told, and the script's status is then 1.
 #
 # It wants `rt`, python3 and cc, and proves the program first where that isn't kept. glibc is taken for the C library.
 set -euo pipefail
@@ -88,9 +89,12 @@ ROUNDS = [
     (round_of("24", 9, "z", "a", "b"), "frame 1 refused live 8 Unlawful\n"),
     (round_of("28", 12, "c", "d", "e"), "frame 2 ok appended=2\n"),
 ]
+UNTIMED = (round_of("32", 13, "d", "e", "f"), "frame 3 refused times 11 Absent f.m4s\n")
+PARTS = {"i.mp4": initial(1_000), **{f"{name}.m4s": fragment(40_000 + 4_000 * k) for k, name in enumerate("abcde")}}
 FOLLOWED = {
     "follow": (["follow", "live.mpd"], {}, FRAMES, ["out/t0.m3u8"], ["out/t0.m3u8", "out/master.m3u8"]),
     "follow-hls": (["follow-hls", "m.m3u8"], {"m.m3u8": MASTER}, ROUNDS, ["out/live.mpd"], ["out/live.mpd"]),
+    "follow-hls-times": (["follow-hls-times", "m.m3u8"], {"m.m3u8": MASTER, **PARTS}, [*ROUNDS, UNTIMED], ["out/live.mpd"], ["out/live.mpd"]),
 }
 
 def left(folder):

@@ -3,8 +3,8 @@
 # 30 segments are kept, and 852,033,600 lie before the first of them. Beside it a loop in C that rewrites a file of the playlist's size and
 # prints a line for each frame. Then the first thousand frames beside all of them, and the same with 10^9 more earlier segments. Then
 # `bridge follow-hls` of 5,001 rounds of a playlist of six segments that slides, beside such a loop, its first thousand rounds, and as many
-# that are refused once their playlist is read. Files lie in a memory file system. The shortest of eleven runs counts, with its largest
-# memory.
+# that are refused once their playlist is read. Then `bridge follow-hls-times` of the same rounds, each with a new media file of 100,000
+# bytes. Files lie in a memory file system. The shortest of eleven runs counts, with its largest memory.
 #
 # It wants `rt`, python3, cc and /dev/shm, and proves the program first where that isn't kept.
 set -euo pipefail
@@ -36,9 +36,10 @@ C
 cc -O2 -o "$work/rewrites" "$work/rewrites.c"
 
 cat > "$work/follow.py" <<'PY'
-import datetime, os, subprocess, sys
+import datetime, functools, os, subprocess, sys
 
-from measure import LAUNCH, measure
+from measure import measure
+from media import fragment, initial, put
 
 bridge, rewrites, folder = sys.argv[1:]
 os.chdir(folder)
@@ -61,17 +62,17 @@ def followed(name):
     return measure(["sh", "-c", f"exec {bridge} follow live.mpd {BASE} < {name}"])
 
 def last(name):
-    told = subprocess.run([bridge, "follow", "live.mpd", BASE], stdin=open(name), capture_output=True, text=True, check=True).stdout.splitlines()
+    run = subprocess.run([bridge, "follow", "live.mpd", BASE], stdin=open(name), capture_output=True, text=True, check=True)
     playlist = open("out/t0.m3u8").read()
     names = [line.rpartition("/")[2] for line in playlist.splitlines() if line.startswith("https://")]
-    return told, playlist, names
+    return run.stdout.splitlines(), playlist, names
 
 stream("thousand", 1_000)
 stream("all", 5_000)
 stream("more", 5_000, "1906-08-16T20:26:40Z")
-told, playlist, names = last("all")
-assert sum(int(line.rpartition("=")[2]) for line in told[:-1]) == 5_030, told[-1]
-assert told[-1] == "done frames=5001 accepted=5001" and "#EXT-X-MEDIA-SEQUENCE:5000\n" in playlist
+lines, playlist, names = last("all")
+assert sum(int(line.rpartition("=")[2]) for line in lines[:-1]) == 5_030, lines[-1]
+assert lines[-1] == "done frames=5001 accepted=5001" and "#EXT-X-MEDIA-SEQUENCE:5000\n" in playlist
 assert (names[0], names[-1], len(names)) == ("s852038571.m4s", "s852038600.m4s", 30)
 
 def beside(what, size, count, run, first, first_count):
@@ -100,22 +101,34 @@ def rounds(name, count, last=""):
             now = (START + datetime.timedelta(seconds=2 * k)).strftime("%Y-%m-%dT%H:%M:%SZ")
             it.write(f"round {now} {len(body)}\n{body}")
 
-def taken(name):
+def taken(command, name):
     """Milliseconds and MiB of taking rounds."""
-    return measure(["sh", "-c", f"exec {bridge} follow-hls m.m3u8 {BASE} < {name}"])
+    return measure(["sh", "-c", f"exec {bridge} {command} m.m3u8 {BASE} < {name}"])
+
+def told(command, timeline):
+    """Tells of the rounds of a command, whose last MPD has this S."""
+    run = subprocess.run([bridge, command, "m.m3u8", BASE], stdin=open("all"), capture_output=True, text=True, check=True)
+    lines = run.stdout.splitlines()
+    mpd = open("out/live.mpd").read()
+    assert lines[0] == "frame 0 ok appended=6" and lines[-2:] == ["frame 5000 ok appended=1", "done frames=5001 accepted=5001"], lines[-2:]
+    assert timeline in mpd and "s5005.m4s" in mpd
+    beside(f"rounds of {command}", len(mpd), 5_001, functools.partial(taken, command), "thousand", 1_001)
 
 rounds("thousand", 1_001)
 rounds("all", 5_001)
-run = subprocess.run([bridge, "follow-hls", "m.m3u8", BASE], stdin=open("all"), capture_output=True, text=True, check=True)
-told = run.stdout.splitlines()
-mpd = open("out/live.mpd").read()
-assert told[0] == "frame 0 ok appended=6" and told[-2:] == ["frame 5000 ok appended=1", "done frames=5001 accepted=5001"], told[-2:]
-assert '<S t="10000000000000" d="2000000000" r="5"/>' in mpd and "s5005.m4s" in mpd
-beside("rounds of follow-hls", len(mpd), 5_001, taken, "thousand", 1_001)
+told("follow-hls", '<S t="10000000000000" d="2000000000" r="5"/>')
 rounds("unfinished", 5_001, "#EXTINF:2,\n")
-read, _ = taken("unfinished")
-whole, _ = taken("all")
+read, _ = taken("follow-hls", "unfinished")
+whole, _ = taken("follow-hls", "all")
 print(f"the same rounds, each refused at the end of its playlist: {read / 5_001 * 1000:.1f} us each; "
       f"{(whole - read) / 5_001 * 1000:.1f} us less")
+
+put("i.mp4", initial(1_000))
+for n in range(5_006):
+    os.truncate(put(f"s{n}.m4s", fragment(2_000 * n)), 100_000)
+told("follow-hls-times", '<S t="10000000" d="2000" r="5"/>')
+(whole, _), (times, _) = (taken(command, "all") for command in ("follow-hls", "follow-hls-times"))
+print(f"{times / whole:.2f} of the time of follow-hls")
+assert times <= 2 * whole
 PY
 python3 "$work/follow.py" "$bridge" "$work/rewrites" "$shm"

@@ -237,7 +237,8 @@ def play_manifests():
 
 if __name__ == "__main__":
     bridge, folder = sys.argv[1:]
-    shutil.copy(f"{os.path.dirname(os.path.abspath(__file__))}/players.html", folder)
+    for name in ("pages.js", "players.html"):
+        shutil.copy(f"{os.path.dirname(os.path.abspath(__file__))}/{name}", folder)
     os.chdir(folder)
     server = playing.Server()
     play_playlists()

@@ -202,7 +202,7 @@ def version(program):
 
 # ---- a server of files
 
-KINDS = {".m3u8": "application/vnd.apple.mpegurl", ".mpd": "application/dash+xml", ".html": "text/html"}
+KINDS = {".js": "text/javascript", ".m3u8": "application/vnd.apple.mpegurl", ".mpd": "application/dash+xml", ".html": "text/html"}
 
 
 class Files(http.server.BaseHTTPRequestHandler):

@@ -2,9 +2,9 @@
 # Runs the bridge on files of up to 8 MB as a stranger may make them, each with as many of one thing as fit: variants, renditions, Periods,
 # S that thousands of Representations share, SegmentURLs. The longest of three runs counts, with its largest memory. Each is to be answered
 # within 5 seconds and 600 MB. Then MPDs with long texts of which an address keeps little, within 2 seconds and 200 MB, and ones whose names
-# are longer than any address, within 2 seconds and 100 MB. Then `bridge follow` and `bridge follow-hls` of streams as a stranger may make
-# them: each frame and each round within 5 seconds, and the run within 1,200 MB. Then `bridge_publish` of two playlists of as many segments as
-# fit that share none: each publication within 5 seconds and 300 MB.
+# are longer than any address, within 2 seconds and 100 MB. Then `bridge follow` and `bridge follow-hls` of streams, and
+# `bridge follow-hls-times` of media files, as a stranger may make them: each frame and each round within 5 seconds, and the run within
+# 1,200 MB. Then `bridge_publish` of two playlists of as many segments as fit that share none: each publication within 5 seconds and 300 MB.
 #
 # It wants `rt` and python3, and proves the programs first where they aren't kept. BRIDGE and PUBLISH name others.
 set -euo pipefail
@@ -17,6 +17,7 @@ cat > "$work/strangers.py" <<'PY'
 import datetime, os, sys
 
 from measure import answers, framed
+from media import box, fragment, initial, put
 
 bridge, publish, work = sys.argv[1:]
 os.chdir(work)
@@ -186,8 +187,47 @@ hls = [
     (rounds("long", ([playlist(k, 100_000, large)] for k in range(3))), "one.m3u8", "a track of 100,000 segments, three times"),
     (rounds("sections", ([sections(1_000) for _ in range(200)] for k in range(3))), "many.m3u8", "200 tracks of 1,000 sections, three times"),
 ]
+
+# Media files of 8 MB and more that a list of one or many segments names, each beside an ordinary init segment or segment.
+EIGHT = 8_388_608
+TINY = box(b"free")
+media = {
+    "i.mp4": initial(1_000),
+    "huge.mp4": box(b"moov", box(b"free", bytes(EIGHT)), initial(1_000)[8:]),
+    "tiny.m4s": TINY * (EIGHT // 8 - 8) + fragment(0),
+    "inside.m4s": fragment(0, *[TINY] * (EIGHT // 8 - 16)),
+    "far.m4s": TINY * 131_000 + fragment(0),
+    "cut.m4s": box(b"moof", bytes(EIGHT))[:65_600],
+    "ranges.mp4": b"".join(fragment(2_000 * k) for k in range(100_000)),
+}
+for name, content in media.items():
+    put(name, content)
+LONG = len(fragment(0))
+
+def files(name, segments, initialization="i.mp4"):
+    """A stream of one round whose segments are these lines."""
+    text = f'#EXTM3U\n#EXT-X-VERSION:6\n#EXT-X-TARGETDURATION:2\n#EXT-X-MAP:URI="{initialization}"\n' + "".join(
+        f"#EXTINF:2,\n{segment}\n" for segment in segments)
+    return rounds(name, [[text]])
+
+def ranged(count, length, first=0):
+    """So many segments of one file, each of so many bytes."""
+    return (f"#EXT-X-BYTERANGE:{length}@{first + LONG * k}\nranges.mp4" for k in range(count))
+
+times = [
+    (files("tiny", ["tiny.m4s"]), "a segment of a million boxes of 8 bytes before its moof"),
+    (files("inside", ["inside.m4s"]), "a segment whose moof has a million boxes of 8 bytes"),
+    (files("far", ["far.m4s"] * 100), "100 segments, each with 131,000 boxes of 8 bytes before its moof"),
+    (files("huge", ["ranges.mp4"], "huge.mp4"), "an init segment whose moov has 8 MB"),
+    (files("cut", ["cut.m4s"]), "a moof of 8 MB that is cut off"),
+    (files("over", ranged(1, 100, LONG * 100_000)), "a range that begins at its file's end"),
+    (files("ranges", ranged(100_000, LONG)), "100,000 segments that are ranges of a file"),
+    (files("rest", ranged(100_000, EIGHT)), "the same, each range with 8 MB, most of them to the file's end"),
+]
+
 streams = [(name, ["follow", "live.mpd"], base, what) for name, base, what in streams]
 streams += [(name, ["follow-hls", master], BASE, what) for name, master, what in hls]
+streams += [(name, ["follow-hls-times", "one.m3u8"], BASE, what) for name, what in times]
 print("| stream | MB | last line | s, the longest frame | MB of memory |\n|---|---|---|---|---|")
 for name, words, base, what in streams:
     seconds, megabytes, last = framed(name, [bridge, *words, f"--base={base}"])

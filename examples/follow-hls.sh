@@ -2,9 +2,10 @@
 # Polls the playlists of a live HLS presentation and gives each snapshot of them to `bridge follow-hls`. After each one that is accepted it
 # puts the MPD into the directory <live> by one rename, so that a server never has half of it. It is for a multivariant playlist (master)
 # whose variants are video, and whose renditions have names of their own. In the directory served at the base URL, with the master:
-#   follow-hls.sh <base> <name of the master> <directory of the MPD> <seconds between polls> <polls> [<form of the MPD>]
+#   follow-hls.sh <base> <name of the master> <directory of the MPD> <seconds between polls> <polls> [<form of the MPD> [<command>]]
+# The command is `follow-hls`, or `follow-hls-times` for the times of the media files in that directory.
 set -euo pipefail
-base=$1 master=$2 live=$3 seconds=$4 polls=$5 form=${6-plain}
+base=$1 master=$2 live=$3 seconds=$4 polls=$5 form=${6-plain} command=${7-follow-hls}
 mkdir -p "$live"
 exec {lock}> "$live.lock"
 flock -n "$lock" || { echo "another one serves $live" >&2; exit 1; }
@@ -32,7 +33,7 @@ round() {
     for k in "${!tracks[@]}"; do cat "$fetched/$k"; done
 }
 
-coproc bridge follow-hls "$master" --base="$base" --out="$live-written" --form="$form"
+coproc bridge "$command" "$master" --base="$base" --out="$live-written" --form="$form"
 from=${COPROC[0]} to=${COPROC[1]}
 for ((poll = 0; poll < polls; poll++)); do
     [ "$poll" = 0 ] || sleep "$seconds"

@@ -4,13 +4,13 @@ _bridge() {
     _init_completion -s -n : || return
     local command=${words[1]} options wanted
     if ((cword == 1)); then
-        mapfile -t COMPREPLY < <(compgen -W 'hls hls-index dash dash-times show check compare agree reload make follow follow-hls' -- "$cur")
+        mapfile -t COMPREPLY < <(compgen -W 'hls hls-index dash dash-times show check compare agree reload make follow follow-hls follow-hls-times' -- "$cur")
         return
     fi
     case $command in
     hls) options='--base= --now= --out= --digits= --form= --addresses=' wanted=mpd ;;
     hls-index) options='--base= --out= --digits= --form= --addresses=' wanted=mpd ;;
-    dash | dash-times | follow-hls) options='--base= --out= --form=' wanted=m3u8 ;;
+    dash | dash-times | follow-hls | follow-hls-times) options='--base= --out= --form=' wanted=m3u8 ;;
     show) options='--base= --now= --digits=' wanted='@(mpd|m3u8)' ;;
     check) options='--base= --digits=' wanted='@(mpd|m3u8)' ;;
     compare) options='--base= --now= --digits= --within= --all=' wanted='@(mpd|m3u8)' ;;

@@ -23,6 +23,7 @@ IsBounded (job.Check j) = IsTrue (is_name j.master)
 IsBounded (job.Compare j) = IsTrue (is_name j.check.master)
 IsBounded (job.DashTimes j) = IsTrue (is_name j.master)
 IsBounded (job.FollowHls j) = IsTrue (is_name j.master)
+IsBounded (job.FollowHlsTimes j) = IsTrue (is_name j.master)
 IsBounded other = Unit {0}
 
 -- ---- what holds of the end of some steps
@@ -164,6 +165,7 @@ bounded_by verb.HlsIndex rows = mapped _ job.HlsIndex (index_of rows) (λ j is. 
 bounded_by verb.DashTimes rows = mapped _ job.DashTimes (master_of rows) (λ j is. is) (master_bounded rows)
 bounded_by verb.Agree rows = free job.Agree (agree_of rows) (λ _. tt)
 bounded_by verb.FollowHls rows = mapped _ job.FollowHls (master_of rows) (λ j is. is) (master_bounded rows)
+bounded_by verb.FollowHlsTimes rows = mapped _ job.FollowHlsTimes (master_of rows) (λ j is. is) (master_bounded rows)
 bounded_by verb.Compare rows = mapped _ job.Compare (compare_of rows) (λ j is. is) (compare_bounded rows)
 
 pub bounded : (words : List (List ℕ)) → IfSome (job_of words) IsBounded

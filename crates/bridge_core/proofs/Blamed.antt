@@ -22,19 +22,20 @@ no_other told other is ends = subst (λ (t : Ending). status_of t ≡ other) is 
 
 -- a job that is no such one
 pub not_followed : (j : Job) → ((follow : FollowJob) → j ≡ job.Follow follow → ⊥) → ((follow : MasterJob) → j ≡ job.FollowHls follow → ⊥)
-    → Follows (Some j) → ⊥
-not_followed (job.Hls j) one other f = f
-not_followed (job.Dash j) one other f = f
-not_followed (job.Follow j) one other f = one j refl
-not_followed (job.Show j) one other f = f
-not_followed (job.Check j) one other f = f
-not_followed (job.Reload j) one other f = f
-not_followed (job.Make j) one other f = f
-not_followed (job.HlsIndex j) one other f = f
-not_followed (job.DashTimes j) one other f = f
-not_followed (job.Agree j) one other f = f
-not_followed (job.FollowHls j) one other f = other j refl
-not_followed (job.Compare j) one other f = f
+    → ((follow : MasterJob) → j ≡ job.FollowHlsTimes follow → ⊥) → Follows (Some j) → ⊥
+not_followed (job.Hls j) one other timed f = f
+not_followed (job.Dash j) one other timed f = f
+not_followed (job.Follow j) one other timed f = one j refl
+not_followed (job.Show j) one other timed f = f
+not_followed (job.Check j) one other timed f = f
+not_followed (job.Reload j) one other timed f = f
+not_followed (job.Make j) one other timed f = f
+not_followed (job.HlsIndex j) one other timed f = f
+not_followed (job.DashTimes j) one other timed f = f
+not_followed (job.Agree j) one other timed f = f
+not_followed (job.FollowHls j) one other timed f = other j refl
+not_followed (job.FollowHlsTimes j) one other timed f = timed j refl
+not_followed (job.Compare j) one other timed f = f
 
 store_read : (j : Job) → (Follows (Some j) → ⊥) → (i i' r r' : ℕ) → Rose r r' → ReadRose (Some j) i i' r r'
 store_read (job.Hls j) other i i' r r' rose = rose
@@ -48,6 +49,7 @@ store_read (job.HlsIndex j) other i i' r r' rose = rose
 store_read (job.DashTimes j) other i i' r r' rose = rose
 store_read (job.Agree j) other i i' r r' rose = rose
 store_read (job.FollowHls j) other i i' r r' rose = absurd (other tt)
+store_read (job.FollowHlsTimes j) other i i' r r' rose = absurd (other tt)
 store_read (job.Compare j) other i i' r r' rose = rose
 
 -- its course is that of its outcome
@@ -64,6 +66,7 @@ other_course (job.HlsIndex j) other files input = refl
 other_course (job.DashTimes j) other files input = refl
 other_course (job.Agree j) other files input = refl
 other_course (job.FollowHls j) other files input = absurd (other tt)
+other_course (job.FollowHlsTimes j) other files input = absurd (other tt)
 other_course (job.Compare j) other files input = refl
 
 pub command_blamed : (o : Option Outcome) (j : Job) (told : Ending) (before after : World) → (Follows (Some j) → ⊥)

@@ -12,6 +12,7 @@ use Rattle.bridge_core.specs.{Dash.dash_outcome, Follow.followed_course, Hls.hls
 use Rattle.bridge_core.specs.Show.{show_outcome}
 use Rattle.bridge_playlists.specs.Reload.{reload_outcome}
 use Rattle.bridge_reach.specs.{Agree.agree_outcome, DashTimes.dash_times_outcome, Index.index_outcome, Rounds.rounds_course}
+use Rattle.bridge_reach.specs.TimedRounds.{timed_course}
 
 abbrev pub no_job : Outcome
 no_job = Ends verdict.Words words_line false true
@@ -31,11 +32,12 @@ outcome_of_job (Some (job.Agree j)) files = agree_outcome j files
 outcome_of_job other files = Some no_job
 
 -- What a run of this command line does with these files and this input. Where they aren't modelled, it is known if the command line
--- alone decides it. `follow` depends only on the input, `follow-hls` on the input and on the master playlist's file, and the others
--- on the files.
+-- alone decides it. `follow` depends only on the input, `follow-hls` on the input and on the master playlist's file, `follow-hls-times`
+-- on the input and the files, and the others on the files.
 abbrev pub course_of_job : Option Job → Option Files → (input : Option (List ℕ)) → Option Course
 course_of_job (Some (job.Follow j)) files input = followed_course j input
 course_of_job (Some (job.FollowHls j)) files input = rounds_course j files input
+course_of_job (Some (job.FollowHlsTimes j)) files input = timed_course j files input
 course_of_job other files input = option_map course_by (outcome_of_job other files)
 
 unfoldable pub course_of : (words : List (List ℕ)) → Option Files → (input : Option (List ℕ)) → Option Course
@@ -47,6 +49,7 @@ course_of words files input = course_of_job (job_of words) files input
 abbrev pub Follows : Option Job → Type 0
 Follows (Some (job.Follow j)) = Unit {0}
 Follows (Some (job.FollowHls j)) = Unit {0}
+Follows (Some (job.FollowHlsTimes j)) = Unit {0}
 Follows other = ⊥
 
 -- it reads no file of the store
@@ -71,6 +74,7 @@ WritesNoFile other = ⊥
 abbrev pub ReadRose : Option Job → (input input' reads reads' : ℕ) → Type 0
 ReadRose (Some (job.Follow j)) input input' reads reads' = Rose input input'
 ReadRose (Some (job.FollowHls j)) input input' reads reads' = Rose input input' ⊎ Rose reads reads'
+ReadRose (Some (job.FollowHlsTimes j)) input input' reads reads' = Rose input input' ⊎ Rose reads reads'
 ReadRose (Some other) input input' reads reads' = Rose reads reads'
 ReadRose None input input' reads reads' = ⊥
 

@@ -19,11 +19,13 @@ use bridge_courses::{Ending, Status, tell};
 use bridge_io::{Ledger, NoMemory, Sink, Source, Steps, Store, Text};
 use bridge_jobs::{Job, job};
 use bridge_playlists::run_reload;
-use bridge_reach::{run_agree, run_dash_times, run_follow_hls, run_hls_index};
+use bridge_reach::{
+    run_agree, run_dash_times, run_follow_hls, run_follow_hls_times, run_hls_index,
+};
 use std::alloc::Global;
 
 /// Runs the command of a command line, without the program's own name: it reads and writes the files of the store, and reports how it
-/// ends, in one line except for `show`, `follow` and `follow-hls`. Only the last two read the input.
+/// ends, in one line except for `show`, `follow`, `follow-hls` and `follow-hls-times`. Only the last three read the input.
 ///
 /// `hls` writes the playlists for an MPD, `t0.m3u8` and so on for each track and `master.m3u8` for all, to a folder, the master playlist
 /// last; for a live one those that `follow` would write for it at a given time. `hls-index` writes the same for an MPD whose media files
@@ -33,7 +35,8 @@ use std::alloc::Global;
 ///
 /// `follow` reads update frames from the input, each a version of a live MPD or only a time, and after each accepted one writes the live
 /// playlists again; it reads nothing from the store. `follow-hls` reads a master playlist and then snapshots of its live media playlists
-/// from the input, and after each accepted one writes the live MPD again, `live.mpd`. Each update frame and each snapshot has a line.
+/// from the input, and after each accepted one writes the live MPD again, `live.mpd`; `follow-hls-times` the same with the decode times of
+/// the media files. Each update frame and each snapshot has a line.
 ///
 /// `show` lists the tracks and sections of an MPD or of a master playlist, a line for each track in each section. `check` reports
 /// whether an MPD and a master playlist agree, or their first difference, and `agree` whether an MPD has the decode times of its media
@@ -132,6 +135,7 @@ fn run_job<I: Source, F: Store, P: Sink, L: Ledger>(
     match job {
         Job::Follow(job) => follow::run(alloc, job, input, store, report, steps),
         Job::FollowHls(job) => run_follow_hls(alloc, job, input, store, report, steps),
+        Job::FollowHlsTimes(job) => run_follow_hls_times(alloc, job, input, store, report, steps),
         other => run_owned(alloc, other, store, steps),
     }
 }
@@ -180,6 +184,6 @@ fn run_command<F: Store, L: Ledger>(
         Job::Compare(job) => run_compare(alloc, job, store, steps),
         Job::Agree(job) => run_agree(alloc, job, store, steps),
         Job::Reload(job) => run_reload(alloc, job, store),
-        Job::Follow(_) | Job::FollowHls(_) => unreachable!(),
+        Job::Follow(_) | Job::FollowHls(_) | Job::FollowHlsTimes(_) => unreachable!(),
     }
 }

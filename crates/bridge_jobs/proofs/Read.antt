@@ -25,7 +25,7 @@ use Rattle.bridge_jobs.specs.CommandLines.{Choice, CommandLinesAreRead, Look, Re
 use Rattle.bridge_jobs.specs.CommandLines.{given_by, given_of, has_repeat, hyphens, is_given, is_option, is_whole, letters, look_of}
 use Rattle.bridge_jobs.specs.CommandLines.{read_job, value_of, named, plain, read_by, read_from, row_of, syntax_of}
 use Rattle.bridge_jobs.specs.{declared.verb.Verb.Verb, declared.verb.Verb.TheVariants.{Hls, Dash, Follow, Show, Check, Reload, Make}}
-use Rattle.bridge_jobs.specs.declared.verb.Verb.TheVariants.{HlsIndex, DashTimes, Agree, FollowHls, Compare}
+use Rattle.bridge_jobs.specs.declared.verb.Verb.TheVariants.{HlsIndex, DashTimes, Agree, FollowHls, FollowHlsTimes, Compare}
 
 -- ---- the arguments of a command that is built
 
@@ -69,6 +69,7 @@ is_built HlsIndex = refl
 is_built DashTimes = refl
 is_built Agree = refl
 is_built FollowHls = refl
+is_built FollowHlsTimes = refl
 is_built Compare = refl
 
 -- ---- which argument a word is of
@@ -1032,6 +1033,7 @@ few_places HlsIndex = omega arith
 few_places DashTimes = omega arith
 few_places Agree = omega arith
 few_places FollowHls = omega arith
+few_places FollowHlsTimes = omega arith
 few_places Compare = omega arith
 
 behind_first : (verb : Verb) (first : Text) (words : List Text) → argument_words (app_of_verb verb) (first ∷ words) ≡ words
@@ -1046,6 +1048,7 @@ behind_first HlsIndex first words = refl
 behind_first DashTimes first words = refl
 behind_first Agree first words = refl
 behind_first FollowHls first words = refl
+behind_first FollowHlsTimes first words = refl
 behind_first Compare first words = refl
 
 none_entered : (word : Text) (s : Syntax) (stop : Option (Text × List Text)) → entered (app_with word s) stop ≡ None

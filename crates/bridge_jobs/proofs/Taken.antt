@@ -4,7 +4,7 @@ use Rattle.clap.specs.Words.{App, IsAmong, Kinds, Row, Text, fault_of, is_simple
 use Rattle.clap.specs.{declared.error.kind.ErrorKind.ErrorKind, declared.error.kind.ErrorKind.TheVariants.OutOfMemory}
 use Rattle.bridge_jobs.specs.{Verbs.{app_of_verb, unless_at_fault, values_of}, declared.verb.Verb.Verb, declared.verb.Verb.TheVariants.Hls}
 use Rattle.bridge_jobs.specs.declared.verb.Verb.TheVariants.{Dash, Follow, Show, Check, Reload, Make, HlsIndex, DashTimes, Agree, FollowHls}
-use Rattle.bridge_jobs.specs.declared.verb.Verb.TheVariants.{Compare}
+use Rattle.bridge_jobs.specs.declared.verb.Verb.TheVariants.{FollowHlsTimes, Compare}
 
 simple : (verb : Verb) → is_simple (app_of_verb verb) ≡ true
 simple Hls = refl
@@ -18,6 +18,7 @@ simple HlsIndex = refl
 simple DashTimes = refl
 simple Agree = refl
 simple FollowHls = refl
+simple FollowHlsTimes = refl
 simple Compare = refl
 
 free : (verb : Verb) → is_simple_and_free (app_of_verb verb) ≡ true
@@ -32,6 +33,7 @@ free HlsIndex = refl
 free DashTimes = refl
 free Agree = refl
 free FollowHls = refl
+free FollowHlsTimes = refl
 free Compare = refl
 
 pub taken : (app : App) (verb : Verb) (words : List Text) (rows : List Row) → app ≡ app_of_verb verb

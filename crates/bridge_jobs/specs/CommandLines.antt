@@ -6,7 +6,7 @@ use Rattle.clap.specs.{Words.{Row, Text, first_of}, declared.builder.value_parse
 use Rattle.clap.specs.declared.parser.matches.ValueSource.TheVariants.{CommandLine}
 use Rattle.bridge_jobs.specs.{Jobs.{◌>>=◌, first_verb, job_by, job_of}, declared.jobs.Job.Job, declared.verb.Verb.Verb}
 use Rattle.bridge_jobs.specs.declared.verb.Verb.TheVariants.{Hls, Dash, Follow, Show, Check, Reload, Make, HlsIndex, DashTimes, Agree}
-use Rattle.bridge_jobs.specs.declared.verb.Verb.TheVariants.{FollowHls, Compare}
+use Rattle.bridge_jobs.specs.declared.verb.Verb.TheVariants.{FollowHls, FollowHlsTimes, Compare}
 
 -- ---- what a command takes
 
@@ -44,6 +44,7 @@ syntax_of HlsIndex = takes (codes "mpd" ∷ []) (required (codes "base") ∷ opt
 syntax_of DashTimes = takes (codes "master" ∷ []) (required (codes "base") ∷ optional (codes "out") ∷ optional (codes "form") ∷ [])
 syntax_of Agree = takes (codes "mpd" ∷ []) (required (codes "base") ∷ [])
 syntax_of FollowHls = takes (codes "master" ∷ []) (required (codes "base") ∷ optional (codes "out") ∷ optional (codes "form") ∷ [])
+syntax_of FollowHlsTimes = takes (codes "master" ∷ []) (required (codes "base") ∷ optional (codes "out") ∷ optional (codes "form") ∷ [])
 syntax_of Compare = takes (codes "mpd" ∷ codes "master" ∷ []) (required (codes "base") ∷ optional (codes "now") ∷ optional (codes "digits")
     ∷ optional (codes "within") ∷ optional (codes "all") ∷ [])
 

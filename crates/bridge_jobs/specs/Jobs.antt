@@ -236,6 +236,7 @@ job_by verb.HlsIndex rows = option_map job.HlsIndex (index_of rows)
 job_by verb.DashTimes rows = option_map job.DashTimes (master_of rows)
 job_by verb.Agree rows = option_map job.Agree (agree_of rows)
 job_by verb.FollowHls rows = option_map job.FollowHls (master_of rows)
+job_by verb.FollowHlsTimes rows = option_map job.FollowHlsTimes (master_of rows)
 job_by verb.Compare rows = option_map job.Compare (compare_of rows)
 
 -- the first word's command
@@ -259,6 +260,7 @@ folder_of (job.Make j) = Some j.out
 folder_of (job.HlsIndex j) = Some j.out
 folder_of (job.DashTimes j) = Some j.out
 folder_of (job.FollowHls j) = Some j.out
+folder_of (job.FollowHlsTimes j) = Some j.out
 folder_of other = None
 
 -- and it leaves room for their names

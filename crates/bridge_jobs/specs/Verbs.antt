@@ -2,7 +2,7 @@
 use Rattle.std.specs.Prelude.{true, codes, bytes_eq, List, [], ◌∷◌, fold, if◌then◌else◌, Option, Some, None}
 use Rattle.clap.specs.Words.{App, Kinds, Row, Rule, Text, fault_of, matches_of, new_app, new_rule, with_rule}
 use Rattle.bridge_jobs.specs.{declared.verb.Verb.Verb, declared.verb.Verb.TheVariants.{Hls, Dash, Follow, Show, Check, Reload, Make}}
-use Rattle.bridge_jobs.specs.declared.verb.Verb.TheVariants.{HlsIndex, DashTimes, Agree, FollowHls, Compare}
+use Rattle.bridge_jobs.specs.declared.verb.Verb.TheVariants.{HlsIndex, DashTimes, Agree, FollowHls, FollowHlsTimes, Compare}
 
 -- a positional word, which is required
 abbrev pub positional : Text → Rule
@@ -31,6 +31,8 @@ parameters_of HlsIndex = positional (codes "mpd") ∷ required_option (codes "ba
 parameters_of DashTimes = positional (codes "master") ∷ required_option (codes "base") ∷ option (codes "out") ∷ option (codes "form") ∷ []
 parameters_of Agree = positional (codes "mpd") ∷ required_option (codes "base") ∷ []
 parameters_of FollowHls = positional (codes "master") ∷ required_option (codes "base") ∷ option (codes "out") ∷ option (codes "form") ∷ []
+parameters_of FollowHlsTimes = positional (codes "master") ∷ required_option (codes "base") ∷ option (codes "out")
+    ∷ option (codes "form") ∷ []
 parameters_of Compare = positional (codes "mpd") ∷ positional (codes "master") ∷ required_option (codes "base") ∷ option (codes "now")
     ∷ option (codes "digits") ∷ option (codes "within") ∷ option (codes "all") ∷ []
 
@@ -47,6 +49,7 @@ word_of HlsIndex = codes "hls-index"
 word_of DashTimes = codes "dash-times"
 word_of Agree = codes "agree"
 word_of FollowHls = codes "follow-hls"
+word_of FollowHlsTimes = codes "follow-hls-times"
 word_of Compare = codes "compare"
 
 -- the command of a word
@@ -63,6 +66,7 @@ verb_of word =
     else if bytes_eq word (codes "dash-times") then Some DashTimes
     else if bytes_eq word (codes "agree") then Some Agree
     else if bytes_eq word (codes "follow-hls") then Some FollowHls
+    else if bytes_eq word (codes "follow-hls-times") then Some FollowHlsTimes
     else if bytes_eq word (codes "compare") then Some Compare
     else None
 

@@ -35,6 +35,8 @@ pub enum Job {
     Agree(AgreeJob),
     /// Converts snapshots of live media playlists to an MPD.
     FollowHls(MasterJob),
+    /// Converts snapshots of live media playlists to an MPD, with the decode times (`tfdt`) of the files.
+    FollowHlsTimes(MasterJob),
     /// Lists every difference of what an MPD and a master playlist mean.
     Compare(CompareJob),
 }

@@ -30,6 +30,8 @@ pub enum Verb {
     Agree,
     /// Converts snapshots of live playlists to an MPD.
     FollowHls,
+    /// Converts snapshots of live playlists to an MPD, with the decode times of their files.
+    FollowHlsTimes,
     /// Lists every difference of an MPD and a master playlist.
     Compare,
 }
@@ -148,6 +150,7 @@ impl Verb {
             "dash-times" => Some(Verb::DashTimes),
             "agree" => Some(Verb::Agree),
             "follow-hls" => Some(Verb::FollowHls),
+            "follow-hls-times" => Some(Verb::FollowHlsTimes),
             "compare" => Some(Verb::Compare),
             _ => None,
         }
@@ -168,6 +171,7 @@ impl Verb {
             Verb::DashTimes => "dash-times",
             Verb::Agree => "agree",
             Verb::FollowHls => "follow-hls",
+            Verb::FollowHlsTimes => "follow-hls-times",
             Verb::Compare => "compare",
         }
     }
@@ -177,7 +181,7 @@ impl Verb {
     {
         match self {
             Verb::Hls => &HLS,
-            Verb::Dash | Verb::DashTimes | Verb::FollowHls => &DASH,
+            Verb::Dash | Verb::DashTimes | Verb::FollowHls | Verb::FollowHlsTimes => &DASH,
             Verb::Follow => &FOLLOW,
             Verb::Show => &SHOW,
             Verb::Check => &CHECK,

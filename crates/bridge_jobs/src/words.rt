@@ -74,6 +74,7 @@ fn job_by(alloc: Global, verb: Verb, values: &Values) -> Result<Job, WordsFault>
         Verb::DashTimes => Job::DashTimes(master(alloc, values)?),
         Verb::Agree => Job::Agree(agree(alloc, values)?),
         Verb::FollowHls => Job::FollowHls(master(alloc, values)?),
+        Verb::FollowHlsTimes => Job::FollowHlsTimes(master(alloc, values)?),
         Verb::Compare => Job::Compare(compare(alloc, values)?),
     };
     Ok(job)

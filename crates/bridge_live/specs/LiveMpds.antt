@@ -15,7 +15,7 @@ use Rattle.live_session.specs.{declared.session.Appended.Appended, Sessions.text
 use Rattle.bridge_report.specs.{Following.Followed, Refusals.{refusal_text, refused_in}, declared.refusal.Refusal.Refusal}
 use Rattle.bridge_report.specs.declared.refusal.Stop.{Stop}
 use Rattle.bridge_steps.specs.{Manifests.values_of, Players.players_in, Playlists.{OutputPlace, spelling_in}, Streams.Stream}
-use Rattle.bridge_live.specs.declared.channel.Channel.{Channel}
+use Rattle.bridge_live.specs.{declared.channel.Channel.Channel, declared.live_mpd.LiveMpd.LiveMpd}
 use Rattle.mpd_hints.specs.declared.starts.Sap.TheVariants.{Segments}
 use Rattle.segment_forms.specs.declared.form.Form.{Form}
 use Rattle.track_hints.specs.declared.hints.Hints.{Hints}
@@ -146,6 +146,9 @@ followed_mpd form terms output = record {
   appended = λ c x. frame_appends terms (session_of c) x;
   makes = λ c x. frame_appends terms (session_of c) x;
 }
+
+abbrev pub told_by : LiveMpd → Followed (Option Channel) Frame
+told_by mpd = followed_mpd mpd.form (record { url = mpd.url; digits = mpd.digits }) (record { folder = mpd.out; base = mpd.base })
 
 -- the frames of a stream of bytes
 abbrev pub frame_stream : FramePos → List ℕ → Stream Frame

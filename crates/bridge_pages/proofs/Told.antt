@@ -1,6 +1,7 @@
 -- Where the files and the input are told, the course of any words is.
 use Rattle.bridge_jobs.specs.declared.jobs.MasterJob.{MasterJob}
 use Rattle.bridge_jobs.specs.declared.jobs.Job.TheVariants as job
+use Rattle.bridge_reach.specs.TimedRounds as timed
 use Rattle.std.proofs.Common.{ℕ, List, Option, Some, None, IsSome, Result, Ok, Err, option_map, refl}
 use Rattle.bridge_courses.specs.Courses.{Course}
 use Rattle.bridge_io.specs.Outside.{Files}
@@ -8,7 +9,7 @@ use Rattle.bridge_jobs.specs.{declared.jobs.Job.Job, Jobs.job_of}
 use Rattle.bridge_report.specs.{Outcomes.{Outcome, course_by}, Reading.Named}
 use Rattle.hls_master.specs.declared.track.MasterTrack.{MasterTrack}
 use Rattle.bridge_steps.specs.{Endings.placed, Follow.course_placed}
-use Rattle.bridge_playlists.specs.{Places.store_place_of, Playlists.master_at}
+use Rattle.bridge_playlists.specs.{Places.store_place_of, Playlists.master_at, declared.place.StorePlace.StorePlace}
 use Rattle.bridge_playlists.specs.Reload.{reload_outcome, reload_under, urls_of}
 use Rattle.bridge_reach.specs.{Agree.{agree_at, agree_outcome}, DashTimes.{dash_times_at, dash_times_outcome}}
 use Rattle.bridge_reach.specs.{Index.{index_at, index_outcome}, Rounds.{rounds_at, rounds_course, rounds_of}}
@@ -35,13 +36,18 @@ any_rounds : (asked : MasterJob) (input : List ℕ) (read : Result (List MasterT
 any_rounds asked input (Ok tracks) = refl
 any_rounds asked input (Err named) = refl
 
+any_timed : (asked : MasterJob) (place : StorePlace) (files : Files) (input : List ℕ) (read : Result (List MasterTrack) Named)
+    → IsSome (timed.course_of asked place files (Some input) read)
+any_timed asked place files input (Ok tracks) = refl
+any_timed asked place files input (Err named) = refl
+
 any_way : {U V : Type 0} (f : Option U → Option V) (u : Option U) → IsSome (f None) → ((x : U) → IsSome (f (Some x))) → IsSome (f u)
 any_way f None without with_one = without
 any_way f (Some x) without with_one = with_one x
 
 job_is_known : (j : Option Job) (files : Files) (input : List ℕ) → IsSome (course_of_job j (Some files) (Some input))
 unfolding hls_outcome dash_outcome show_outcome check_outcome reload_outcome make_outcome
-    compare_outcome index_outcome dash_times_outcome agree_outcome followed_course rounds_course
+    compare_outcome index_outcome dash_times_outcome agree_outcome followed_course rounds_course timed.timed_course
 job_is_known None files input = refl
 job_is_known (Some (job.Hls j)) files input = asked (hls_at j (Some files)) (store_place_of j.base j.mpd) (λ p. refl)
 job_is_known (Some (job.Dash j)) files input = asked (dash_at j (Some files)) (store_place_of j.base j.master) (λ p. refl)
@@ -58,6 +64,9 @@ job_is_known (Some (job.Follow j)) files input = course_under (follow_at j (Some
 job_is_known (Some (job.FollowHls j)) files input =
     course_under (rounds_at j (Some files) (Some input)) (store_place_of j.base j.master)
     (λ p. any_rounds j input (master_at p files))
+job_is_known (Some (job.FollowHlsTimes j)) files input =
+    course_under (timed.timed_at j (Some files) (Some input)) (store_place_of j.base j.master)
+    (λ p. any_timed j p files input (master_at p files))
 
 pub course_is_known : (words : List (List ℕ)) (files : Files) (input : List ℕ) → IsSome (course_of words (Some files) (Some input))
 unfolding course_of

@@ -6,7 +6,7 @@ use Rattle.bridge_io.proofs.AndThen.{steps_of}
 use Rattle.hls_follow.specs.declared.state.Followed.{Followed}
 use Rattle.dash_writer.specs.Live.{live_text}
 use Rattle.bridge_jobs.specs.{Frames.start, Laws.in_folder, declared.round.Round.Round}
-use Rattle.bridge_report.specs.{Following.unless_refused, Laws.{FileIsOfAccepted, FilesAreOfAccepted, IsRewritten, accepted_in}}
+use Rattle.bridge_report.specs.{Following.{Followed as Told, unless_refused}, Laws.{FileIsOfAccepted, FilesAreOfAccepted, IsRewritten, accepted_in}}
 use Rattle.bridge_report.specs.Laws.{files_along, state_after}
 use Rattle.bridge_report.specs.{Refusals.refusal_text, declared.refusal.Refusal.Refusal}
 use Rattle.bridge_steps.specs.Follow.{fault_line}
@@ -14,6 +14,33 @@ use Rattle.bridge_reach.specs.RoundLaws.{AcceptedLeaveAnMpd, FileIsOfTheHistory,
 use Rattle.bridge_reach.specs.Rounds.{followed_rounds, hls_of, medias_of, mpd_text, no_rounds, round_state, round_stream, taken}
 use Rattle.bridge_reach.specs.{declared.rounds.LiveHls.LiveHls, declared.rounds.LiveRounds.LiveRounds}
 use Rattle.bridge_reach.proofs.Rounding.{IsOneMore, one_more}
+
+-- ---- what each accepted snapshot leaves, some leave
+
+module _ {S X : Type 0} (f : Told S X) (P : S → Type 0) (one : (s : S) (x : X) → f.refusal s x ≡ None → P (f.after s x)) where
+  -- it stays
+  stays : (xs : List X) (s : S) → P s → P (state_after f s (accepted_in f s xs))
+  stays [] s some = some
+  stays (x ∷ xs) s some = go (f.refusal s x) refl (λ t. stays xs t)
+    where
+      go : (r : Option (List ℕ)) → f.refusal s x ≡ r → ((t : S) → P t → P (state_after f t (accepted_in f t xs)))
+          → P (state_after f s (unless_refused r (x ∷ accepted_in f (f.after s x) xs) (accepted_in f s xs)))
+      go None e next = next (f.after s x) (one s x e)
+      go (Some why) e next = next s some
+
+  -- the first accepted one leaves it
+  pub comes : (xs : List X) (s : S) (y : X) (ys : List X) → accepted_in f s xs ≡ y ∷ ys → P (state_after f s (accepted_in f s xs))
+  comes [] s y ys is = absurd (cc)
+  comes (x ∷ xs) s y ys is = go (f.refusal s x) refl is (comes xs s y ys)
+    where
+      go : (r : Option (List ℕ)) → f.refusal s x ≡ r
+          → unless_refused r (x ∷ accepted_in f (f.after s x) xs) (accepted_in f s xs) ≡ y ∷ ys
+          → (accepted_in f s xs ≡ y ∷ ys → P (state_after f s (accepted_in f s xs)))
+          → P (state_after f s (unless_refused r (x ∷ accepted_in f (f.after s x) xs) (accepted_in f s xs)))
+      go None e some next = stays xs (f.after s x) (one s x e)
+      go (Some why) e some next = next some
+
+-- ---- snapshots of playlists
 
 abbrev HasMpd : LiveRounds → Type 0
 HasMpd s = IsSome s.follow.followed
@@ -32,38 +59,10 @@ module _ (hls : LiveHls) where
       go (Ok s') e accepted = one_of s s' x e
       go (Err why) e accepted = absurd (cc)
 
-  -- an MPD stays
-  mpd_stays : (xs : List Round) (s : LiveRounds) → HasMpd s
-      → HasMpd (state_after (followed_rounds hls) s (accepted_in (followed_rounds hls) s xs))
-  mpd_stays [] s some = some
-  mpd_stays (x ∷ xs) s some = go ((followed_rounds hls).refusal s x) refl (λ t. mpd_stays xs t)
-    where
-      go : (r : Option (List ℕ)) → (followed_rounds hls).refusal s x ≡ r
-          → ((t : LiveRounds) → HasMpd t → HasMpd (state_after (followed_rounds hls) t (accepted_in (followed_rounds hls) t xs)))
-          → HasMpd (state_after (followed_rounds hls) s (unless_refused r (x ∷ accepted_in (followed_rounds hls)
-          ((followed_rounds hls).after s x) xs) (accepted_in (followed_rounds hls) s xs)))
-      go None e next = next ((followed_rounds hls).after s x) (after_one s x e).mpd
-      go (Some why) e next = next s some
-
-  -- the first accepted round leaves one
-  mpd_comes : (xs : List Round) (s : LiveRounds) (y : Round) (ys : List Round) → accepted_in (followed_rounds hls) s xs ≡ y ∷ ys
-      → HasMpd (state_after (followed_rounds hls) s (accepted_in (followed_rounds hls) s xs))
-  mpd_comes [] s y ys is = absurd (cc)
-  mpd_comes (x ∷ xs) s y ys is = go ((followed_rounds hls).refusal s x) refl is (mpd_comes xs s y ys)
-    where
-      go : (r : Option (List ℕ)) → (followed_rounds hls).refusal s x ≡ r
-          → unless_refused r (x ∷ accepted_in (followed_rounds hls) ((followed_rounds hls).after s x) xs)
-          (accepted_in (followed_rounds hls) s xs) ≡ y ∷ ys
-          → (accepted_in (followed_rounds hls) s xs ≡ y ∷ ys → HasMpd (state_after (followed_rounds hls) s (accepted_in
-          (followed_rounds hls) s xs)))
-          → HasMpd (state_after (followed_rounds hls) s (unless_refused r (x ∷ accepted_in (followed_rounds hls)
-          ((followed_rounds hls).after s x) xs) (accepted_in (followed_rounds hls) s xs)))
-      go None e some next = mpd_stays xs ((followed_rounds hls).after s x) (after_one s x e).mpd
-      go (Some why) e some next = next some
-
 pub leave_an_mpd : AcceptedLeaveAnMpd
 leave_an_mpd job tracks bytes n round more is = let hls = hls_of job tracks in
-    mpd_comes hls (take n (round_stream hls start bytes).0) (no_rounds tracks) round more is
+    comes (followed_rounds hls) HasMpd (λ s x accepted. (after_one hls s x accepted).mpd) (take n (round_stream hls start bytes).0)
+    (no_rounds tracks) round more is
 
 -- the one file is written anew
 rewritten : (hls : LiveHls) → IsRewritten (followed_rounds hls) hls.name (mpd_text hls.form)

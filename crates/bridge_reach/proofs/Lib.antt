@@ -9,4 +9,6 @@ pub mod Stated
 pub mod Timely
 pub mod Accepted
 pub mod Rounding
+pub mod Timing
 pub mod Working
+pub mod TimedAccepted

@@ -123,10 +123,11 @@ kept_so hls s s' kept more = record { one_each = ap length more.tracks ∙ kept.
 
 module _ (hls : LiveHls) (s s' : LiveRounds) (round : Round) (medias : List Media) (read : medias_of hls.urls round.bodies
     ≡ Ok medias) where
-  pub accepted_by : (result : Result ℕ Stop) (made : ℕ) → Gives (λ n. s') refused_in result (taken s round.now medias)
-      → IfOk result (λ n. n ≡ appended_by s.follow medias) → IfOk result (λ n. Accepts (followed_rounds hls) s round s' n made made)
-  accepted_by (Ok n) made takes appended = accepted_so hls s round medias s' n made read takes appended
-  accepted_by (Err stop) made takes appended = tt
+  pub accepted_by : (result : Result ℕ Stop) → Gives (λ n. s') refused_in result (taken s round.now medias)
+      → IfOk result (λ n. n ≡ appended_by s.follow medias)
+      → IfOk result (λ n. (made : ℕ) → Accepts (followed_rounds hls) s round s' n made made)
+  accepted_by (Ok n) takes appended = λ made. accepted_so hls s round medias s' n made read takes appended
+  accepted_by (Err stop) takes appended = tt
 
   pub refused_by : (result : Result ℕ Stop) → Gives (λ n. s') refused_in result (taken s round.now medias)
       → IfErr result (λ stop. IfSome (refused_in stop) (λ r. (followed_rounds hls).refusal s round ≡ Some (refusal_text r)))
@@ -151,8 +152,8 @@ shown form None mpd is = absurd (cc)
 shown form (Some f) mpd is = let same : f.mpd ≡ mpd = cc in ap (live_text form) (sym same)
 
 -- the MPD that is shown is put, or begun
-module _ (form : Form) (name : List ℕ) (s : LiveRounds) (mpd : LiveMpd) (is : option_map (λ (f : Followed). f.mpd) s.follow.followed ≡ Some mpd)
-    (before after : Option Files) where
+module _ (form : Form) (name : List ℕ) (s : LiveRounds) (mpd : LiveMpd)
+    (is : option_map (λ (f : Followed). f.mpd) s.follow.followed ≡ Some mpd) (before after : Option Files) where
   pub put_by : (result : Result (Unit {0}) OutFault) → OnOk result (Changes (put name (live_text form mpd)) before after)
       → OnOk result (Changes (put_all ((name, mpd_text form s) ∷ [])) before after)
   put_by (Ok done) puts = one_put (name, mpd_text form s) before after

@@ -5,3 +5,5 @@ pub mod Index
 pub mod Promises
 pub mod RoundLaws
 pub mod Rounds
+pub mod TimedRounds
+pub mod TimedRoundLaws

@@ -1,11 +1,10 @@
 -- `follow-hls`: from snapshots of live playlists to an MPD (RFC 8216, 6.2; ISO/IEC 23009-1, 5.3).
-use Rattle.bridge_courses.specs.declared.ending.Ending.TheVariants as ending
 use Rattle.bridge_courses.specs.declared.status.Verdict.TheVariants as verdict
 use Rattle.bridge_report.specs.declared.refusal.Refusal.TheVariants as refusal
-use Rattle.std.specs.Prelude.{◌≡◌, ◌⊎◌, ℕ, ℤ, ◌+◌, ◌<◌, true, codes, List, [], ◌∷◌, ◌++◌, length, map, Option, Some, None, option_map}
+use Rattle.std.specs.Prelude.{◌≡◌, ℕ, ℤ, ◌+◌, ◌<◌, true, codes, List, [], ◌∷◌, ◌++◌, length, map, Option, Some, None, option_map}
 use Rattle.std.specs.{Prelude.{IsSome, Result, Ok, Err}, Option.{option_and_then, option_map_or}}
 use Rattle.std.specs.Result.{result_err, result_ok, result_unwrap_or}
-use Rattle.bridge_io.specs.{Answer.{and_then, told_as}, Fault.Rose, Outside.Files}
+use Rattle.bridge_io.specs.{Answer.{and_then, told_as}, Outside.Files}
 use Rattle.iso_time.specs.Instant.{IsReadable}
 use Rattle.hls_master.specs.declared.track.MasterTrack.{MasterTrack}
 use Rattle.hls_media.specs.{Media.media_of, declared.media.Media.Media}
@@ -14,7 +13,7 @@ use Rattle.segment_forms.specs.declared.form.Form.{Form}
 use Rattle.dash_writer.specs.Live.{live_text}
 use Rattle.bridge_jobs.specs.{Laws.in_folder, Rounds.rounds_from, declared.frame.FramePos.FramePos, declared.round.Round.Round}
 use Rattle.bridge_jobs.specs.declared.jobs.MasterJob.{MasterJob}
-use Rattle.bridge_courses.specs.{Courses.{Course, World}, Steps.IsCaused, declared.ending.Ending.Ending}
+use Rattle.bridge_courses.specs.Courses.{Course}
 use Rattle.bridge_report.specs.{Following.Followed, Outcomes.{Ends, course_by}, Reading.Named, Refusals.{refusal_line, refusal_text}}
 use Rattle.bridge_report.specs.declared.refusal.Refusal.{Refusal}
 use Rattle.bridge_playlists.specs.{Places.store_place_of, Playlists.master_at, declared.place.StorePlace.StorePlace}
@@ -60,12 +59,16 @@ mpd_text form s = option_map_or (λ followed. live_text form followed.mpd) s.fol
 
 -- ---- what is followed
 
--- the one file is the MPD, and no segment is made
+-- the one file is the MPD
+abbrev pub files_of : LiveHls → LiveRounds → List (List ℕ × List ℕ)
+files_of hls s = (hls.name, mpd_text hls.form s) ∷ []
+
+-- no segment is made
 abbrev pub followed_rounds : LiveHls → Followed LiveRounds Round
 followed_rounds hls = record {
   refusal = λ s round. option_map refusal_text (result_err (round_state hls s round));
   after = λ s round. result_unwrap_or (round_state hls s round) s;
-  files = λ s. (hls.name, mpd_text hls.form s) ∷ [];
+  files = files_of hls;
   appended = round_appends hls;
   makes = λ s round. 0;
 }
@@ -112,11 +115,3 @@ rounds_at job files input place = option_and_then (λ files. rounds_of job input
 
 unfoldable pub rounds_course : MasterJob → Option Files → (input : Option (List ℕ)) → Option Course
 rounds_course job files input = course_placed (rounds_at job files input) (store_place_of job.base job.master)
-
--- ---- causes
-
--- an I/O error has its cause, a read error in the input or in the store, and no work ends with `Words`
-abbrev pub IsCausedByEither : Ending → (before after : World) → Type 0
-IsCausedByEither ending.ReadFault before after =
-    Rose before.input_faults after.input_faults ⊎ Rose before.read_faults after.read_faults
-IsCausedByEither told before after = IsCaused told before after

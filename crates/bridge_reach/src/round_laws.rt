@@ -1,5 +1,7 @@
 //! Laws of following live playlists. The functions do nothing: what they ensure is the law.
 ghost use Rattle.bridge_reach.specs.RoundLaws.{AcceptedLeaveAnMpd, FileIsOfTheHistory, NoneWriteNothing};
+ghost use Rattle.bridge_reach.specs.TimedRoundLaws.{AcceptedLeaveATimedMpd, NoneWriteNoTimedMpd, TimedCoursesAreFollowed};
+ghost use Rattle.bridge_reach.specs.TimedRoundLaws.{TimedFileIsOfTheHistory};
 
 use crate::rounds::LiveRounds;
 use bridge_jobs::Round;
@@ -14,3 +16,11 @@ pub fn the_mpd_is_of_the_accepted_rounds()
 {
     accepted_frames_make_the_files::<LiveRounds, Round>();
 }
+
+/// The same of `follow-hls-times`, where each snapshot is judged by the store's files as they are then.
+pub fn the_timed_mpd_is_of_the_accepted_rounds()
+    ensures course { TimedCoursesAreFollowed }
+    ensures mpd { AcceptedLeaveATimedMpd }
+    ensures file { TimedFileIsOfTheHistory }
+    ensures none { NoneWriteNoTimedMpd }
+{}

@@ -1,17 +1,18 @@
 // Following live playlists.
-ghost use Rattle.std.specs.Prelude.{◌≡◌, ◌+◌, ◌<◌, All, length, IfOk, OnErr};
+ghost use Rattle.std.specs.Prelude.{◌≡◌, ℕ, ◌+◌, ◌<◌, All, length, IfErr, IfOk, IfSome, OnErr, OnOk, Some};
 ghost use Rattle.bridge_io.specs.Answer.{Gives};
 ghost use Rattle.iso_time.specs.Instant.{IsReadable};
 ghost use Rattle.hls_media.specs.Laws.{IsBounded};
 ghost use Rattle.hls_follow.specs.Rounds.{appended_by};
 ghost use Rattle.bridge_jobs.specs.Frames.{most_frames};
-ghost use Rattle.bridge_report.specs.Refusals.{refused_in};
+ghost use Rattle.bridge_report.specs.Refusals.{refusal_text, refused_in};
+ghost use Rattle.bridge_steps.specs.Follow.{Accepts};
 ghost use Rattle.bridge_reach.specs.Rounds as spec;
 
 use bridge_io::{Bytes, Ledger, Name, OutFault, Sequence, Source, Steps, Store};
 use bridge_jobs::laws::rounds_follow;
 use bridge_jobs::{BodyList, FrameFault, FramePos, Round, read_round};
-use bridge_report::Stop;
+use bridge_report::{FrameStop, Stop};
 use bridge_steps::Follow;
 use dash_writer::write_live_mpd;
 use hls_media::{Media, read_media, what_is_read_is_bounded};
@@ -49,7 +50,7 @@ impl Follow for LiveHls {
 
     type Live = LiveRounds;
 
-    ghost told = { λ hls. spec.followed_rounds hls };
+    ghost told = { λ hls _. spec.followed_rounds hls };
 
     ghost accepted = { λ hls live. live.accepted };
 
@@ -69,16 +70,17 @@ impl Follow for LiveHls {
         read_round(alloc, input, self.urls.len(), at)
     }
 
-    fn accept<L: Ledger>(
+    fn accept<F: Store, L: Ledger>(
         &self,
         alloc: Global,
         live: &mut LiveRounds,
         round: &Round,
+        _store: &mut F,
         _steps: &mut Steps<L>,
-    ) -> Result<u64, Stop> {
-        match round_medias(alloc, self, &round.bodies) {
-            Ok(medias) => take(live, round.now, &medias),
-            Err(stop) => Err(stop),
+    ) -> Result<u64, FrameStop> {
+        match self.judge(alloc, live, round) {
+            Ok(appended) => Ok(appended),
+            Err(stop) => Err(FrameStop::of(alloc, stop)),
         }
     }
 
@@ -89,6 +91,27 @@ impl Follow for LiveHls {
         store: &mut F,
     ) -> Result<(), OutFault> {
         write_live_mpd(alloc, self.form, live.follow.view(), store, &self.name)
+    }
+}
+
+impl LiveHls {
+    /// Applies a snapshot, and returns how many segments it appended; or why it is rejected, and then nothing is changed.
+    fn judge(&self, alloc: Global, live: &mut LiveRounds, round: &Round) -> Result<u64, Stop>
+        requires few { live.old.accepted < most_frames }
+        requires kept { spec.IsKept self.now live.old }
+        requires read { spec.IsRead self.now round.now }
+        ensures accepted { IfOk result (λ n. (made : ℕ) →
+            Accepts (spec.followed_rounds self.now) live.old round.entry.now live.new n made made) }
+        ensures refused { IfErr result (λ stop. IfSome (refused_in stop) (λ r.
+            (spec.followed_rounds self.now).refusal live.old round.entry.now ≡ Some (refusal_text r))) }
+        ensures same { OnErr result (live.new ≡ live.old) }
+        ensures counts { OnOk result (live.new.accepted ≡ live.old.accepted + 1) }
+        ensures kept { spec.IsKept self.now live.new }
+    {
+        match round_medias(alloc, self, &round.bodies) {
+            Ok(medias) => take(live, round.now, &medias),
+            Err(stop) => Err(stop),
+        }
     }
 }
 
@@ -114,7 +137,11 @@ fn take(live: &mut LiveRounds, now: Instant, medias: &MediaFiles) -> Result<u64,
 }
 
 /// Reads the playlists of a snapshot, also those of dropped tracks.
-fn round_medias(alloc: Global, hls: &LiveHls, bodies: &BodyList) -> Result<MediaFiles, Stop>
+pub(crate) fn round_medias(
+    alloc: Global,
+    hls: &LiveHls,
+    bodies: &BodyList,
+) -> Result<MediaFiles, Stop>
     requires { length bodies.now ≡ length hls.now.urls }
     ensures medias { Gives (λ medias. medias) refused_in result (spec.medias_of hls.now.urls bodies.now) }
     ensures one_each { IfOk result (λ medias. length medias ≡ length hls.now.urls) }

@@ -3,9 +3,9 @@ use Rattle.std.proofs.Common.{◌≡◌, ℕ, zero, suc, ◌+◌, true, List, []
 use Rattle.bridge_io.specs.{Outside.{Files, Changes}, InOrder.put_all}
 use Rattle.bridge_courses.specs.{Courses.{Step, files_to}, Steps.with_step}
 use Rattle.bridge_courses.proofs.Stepping.{put_all-both}
-use Rattle.bridge_report.specs.{Following.{Followed, unless_refused, line_by, step_of, next_of, accepted_with, course_from}, Laws.Mirrors}
+use Rattle.bridge_report.specs.{Following.{Followed, unless_refused, line_by, step_of, next_of, accepted_with, course_from, judged_from}, Laws.Mirrors}
 use Rattle.bridge_report.specs.Laws.{MirrorsHaveOneCourse, accepted_in, state_after, files_along, FilesAreOfAccepted, IsRewritten}
-use Rattle.bridge_report.specs.Laws.{FileIsOfAccepted}
+use Rattle.bridge_report.specs.Laws.{FileIsOfAccepted, JudgedAlike}
 
 module _ {S X : Type 0} (f : Followed S X) where
   files_along-by : (refusal : Option (List ℕ)) (s : S) (x : X) (more less : List X)
@@ -95,3 +95,11 @@ module _ {S T X : Type 0} (f : Followed S X) (g : Followed T X) (left : S → T)
 
 pub mirrored : {S T X : Type 0} → MirrorsHaveOneCourse S T X
 mirrored = one_course
+
+-- ---- files that don't matter
+
+pub judged_alike : {S X : Type 0} → JudgedAlike S X
+unfolding course_from judged_from
+judged_alike f files s i a [] fault = refl
+judged_alike f files s i a (x ∷ xs) fault = ap (with_step (step_of f s i x))
+    (judged_alike f (put_all (step_of f s i x).files files) (next_of f s x) (i + 1) (accepted_with f s x a) xs fault)

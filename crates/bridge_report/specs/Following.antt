@@ -1,6 +1,7 @@
 -- The course of a followed presentation: a step for each update frame, accepted or rejected.
 use Rattle.bridge_courses.specs.declared.status.Verdict.TheVariants as verdict
 use Rattle.std.specs.Prelude.{ℕ, ◌+◌, true, List, [], ◌∷◌, ◌++◌, codes, decimal, Option, Some, None}
+use Rattle.bridge_io.specs.{InOrder.put_all, Outside.Files}
 use Rattle.bridge_courses.specs.{declared.status.Verdict.Verdict, Courses.{Step, End, Course}, Steps.{with_step, only_end}}
 
 -- What is followed, by its layers: S is the type of the state after the accepted update frames, and X that of an update
@@ -78,3 +79,12 @@ end_by frames accepted fault = record { verdict = verdict_by fault; lines = last
 unfoldable pub course_from : {S X : Type 0} → Followed S X → S → (frames accepted : ℕ) → List X → (fault : Option (List ℕ)) → Course
 course_from f s i a [] fault = only_end (end_by i a fault)
 course_from f s i a (x ∷ xs) fault = with_step (step_of f s i x) (course_from f (next_of f s x) (i + 1) (accepted_with f s x a) xs fault)
+
+-- ---- frames that are judged by the store's files
+
+-- the same, where each frame is judged by the files as they are then: those that were written for frames before belong to them
+unfoldable pub judged_from : {S X : Type 0} → (told : Files → Followed S X) → Files → S → (frames accepted : ℕ) → List X
+    → (fault : Option (List ℕ)) → Course
+judged_from told files s i a [] fault = only_end (end_by i a fault)
+judged_from told files s i a (x ∷ xs) fault = let f = told files in let step = step_of f s i x in
+    with_step step (judged_from told (put_all step.files files) (next_of f s x) (i + 1) (accepted_with f s x a) xs fault)

@@ -3,7 +3,7 @@ use Rattle.bridge_courses.specs.declared.status.Status.TheVariants as status
 use Rattle.std.specs.Prelude.{◌≡◌, ℕ, List, [], ◌∷◌, ◌++◌, take, Option, Some}
 use Rattle.bridge_io.specs.{Outside.{Files, Changes}, InOrder.put_all}
 use Rattle.bridge_courses.specs.{Courses.{World, files_to}, Executions.IsExecution, Laws.ReadsFirst}
-use Rattle.bridge_report.specs.{Following.{Followed, unless_refused, course_from}, Outcomes.{Outcome, course_by}}
+use Rattle.bridge_report.specs.{Following.{Followed, unless_refused, course_from, judged_from}, Outcomes.{Outcome, course_by}}
 
 -- ---- commands that read everything before they write
 
@@ -61,3 +61,10 @@ pub record Mirrors {S T X : Type 0} (f : Followed S X) (g : Followed T X) (left 
 abbrev pub MirrorsHaveOneCourse : Type 0 → Type 0 → Type 0 → Type 0
 MirrorsHaveOneCourse S T X = (f : Followed S X) (g : Followed T X) (left : S → T) → ((s : S) (x : X) → Mirrors f g left s x)
     → (s : S) (i a : ℕ) (xs : List X) (fault : Option (List ℕ)) → course_from f s i a xs fault ≡ course_from g (left s) i a xs fault
+
+-- ---- frames that are judged by the store's files
+
+-- where the files don't matter, it is the course of the frames alone
+abbrev pub JudgedAlike : Type 0 → Type 0 → Type 0
+JudgedAlike S X = (f : Followed S X) (files : Files) (s : S) (i a : ℕ) (xs : List X) (fault : Option (List ℕ))
+    → judged_from (λ all. f) files s i a xs fault ≡ course_from f s i a xs fault

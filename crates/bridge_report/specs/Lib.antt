@@ -1,6 +1,7 @@
 pub mod Bases
 pub mod FileTimes
 pub mod Following
+pub mod FrameStops
 pub mod Laws
 pub mod Outcomes
 pub mod Reading

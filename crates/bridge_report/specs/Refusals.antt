@@ -175,6 +175,10 @@ words_of (refusal.Live fault) = live_words fault
 unfoldable pub refusal_text : Refusal → List ℕ
 refusal_text refusal = words_of refusal ++ spot_text (spot_of refusal)
 
+-- the same with the name of the file, before the position
+unfoldable pub file_refusal_text : (file : List ℕ) → Refusal → List ℕ
+file_refusal_text file refusal = words_of refusal ++ (codes " " ++ file) ++ spot_text (spot_of refusal)
+
 -- the report's line for a rejected file; `-` stands for no file
 unfoldable pub refusal_line : (file : List ℕ) → Refusal → List ℕ
 refusal_line file refusal = codes "refused " ++ file ++ codes " " ++ refusal_text refusal ++ codes "\n"

@@ -139,8 +139,25 @@ pub fn refusal_line(alloc: Global, file: &str, refusal: Refusal) -> Result<Text,
 pub fn refusal_text(alloc: Global, refusal: Refusal) -> Result<Text, NoMemory>
     ensures { IfOk result (λ text. text ≡ spec.refusal_text refusal) }
 {
+    told_text(alloc, words(refusal), &refusal)
+}
+
+/// The report's text for an error with the name of its file: the layer's word, the number and the name, the file, and the position, if
+/// there is one.
+#[tactic(auto, unfolding(crate::specs::Refusals::file_refusal_text))]
+pub fn file_refusal_text(alloc: Global, file: &str, refusal: Refusal) -> Result<Text, NoMemory>
+    ensures { IfOk result (λ text. text ≡ spec.file_refusal_text file.now refusal) }
+{
     let words = words(refusal);
-    match spot(refusal) {
+    let words = format!(in alloc; "{words} {file}")?;
+    told_text(alloc, words.as_str(), &refusal)
+}
+
+/// Words with the position, if there is one.
+fn told_text(alloc: Global, words: &str, refusal: &Refusal) -> Result<Text, NoMemory>
+    ensures { IfOk result (λ text. text ≡ words.now ++ spec.spot_text (spec.spot_of refusal.now)) }
+{
+    match spot(*refusal) {
         None => Text::copy_of(alloc, words),
         Some(Spot::Byte(at)) => Ok(Text::from(format!(in alloc; "{words} at {at}")?)),
         Some(Spot::At(place)) => text_at(alloc, words, place),

@@ -1,12 +1,20 @@
 -- The step of a frame.
 use Rattle.bridge_courses.specs.declared.ending.Ending.TheVariants as ending
 use Rattle.std.proofs.Common.{◌≡◌, ◌≤◌, ◌⊎◌, ℕ, ◌+◌, true, List, [], Option, None, Some, inl, inr, sym, ap, ◌∙◌, subst, arith}
-use Rattle.bridge_io.specs.{Outside.{Changes, Appends}, InOrder.put_all}
+use Rattle.bridge_io.specs.{Outside.{Appends, Changes, Files}, InOrder.put_all}
 use Rattle.bridge_courses.specs.{declared.ending.Ending.Ending, Courses.{Step, World}, Steps.{StepIsDone, Stops, Halts, IsCutOff}}
-use Rattle.bridge_courses.specs.Steps.{outside_of}
+use Rattle.bridge_courses.specs.Steps.{Outside, outside_of}
 use Rattle.bridge_courses.proofs.Stepping.{none_put, halts_cut}
 use Rattle.bridge_report.specs.Following.{Followed, unless_refused, line_by, accepted_line, refused_frame, step_of, next_of, accepted_with}
 use Rattle.bridge_steps.specs.Follow.{Accepts}
+
+-- the same, begun where the files and the count of faults are those
+pub halts_from : (files : List (List ℕ × List ℕ)) (lines : List ℕ) (told : Ending) (o o' : Outside) (first : Option Files) (faults : ℕ)
+    → o.files ≡ first → o.write_faults ≡ faults → Halts files lines told o o'
+    → Halts files lines told (record o { files = first; write_faults = faults }) o'
+halts_from files lines told o o' first faults is counts halts =
+    subst (λ w. Halts files lines told (record o { files = first; write_faults = w }) o') counts
+    (subst (λ fs. Halts files lines told (record o { files = fs }) o') is halts)
 
 module _ {S X : Type 0} (f : Followed S X) (s : S) (i : ℕ) (x : X) where
   -- the step where the frame is refused so, or accepted

@@ -4,6 +4,9 @@ pub mod Pushing
 pub mod FrameSteps
 pub mod Grown
 pub mod Rest
+pub mod Whole
+pub mod Caused
+pub mod Stopped
 pub mod Beginning
 pub mod Begun
 pub mod Static

@@ -2,76 +2,114 @@
 use Rattle.bridge_jobs.specs.declared.frame.FrameFault.TheVariants as fault
 use Rattle.bridge_courses.specs.declared.status.Verdict.TheVariants as verdict
 use Rattle.bridge_courses.specs.declared.ending.Ending.TheVariants as ending
-use Rattle.std.proofs.Common.{◌≡◌, ◌⊎◌, ℕ, ◌+◌, IsTrue, List, [], ◌∷◌, Option, None, Some, option_map, IfSome, inr, refl, sym, ap, ◌∙◌}
-use Rattle.std.proofs.Common.{subst}
-use Rattle.bridge_io.specs.Fault.{Rose}
+use Rattle.std.proofs.Common.{◌≡◌, ◌⊎◌, ℕ, ◌+◌, Bool, true, false, IsTrue, List, [], ◌∷◌, Option, None, Some, option_map, IfSome, inl, inr}
+use Rattle.std.proofs.Common.{refl, sym, ap, ◌∙◌, subst}
+use Rattle.bridge_io.specs.{Fault.Rose, InOrder.put_all, Outside.{Changes, Files}}
 use Rattle.bridge_jobs.specs.{Frames.refusal, declared.frame.FramePos.FramePos, declared.frame.FrameFault.FrameFault}
-use Rattle.bridge_courses.specs.{declared.ending.Ending.Ending, Courses.World, Executions.{Works, NeverFalls}, Steps.first_step}
-use Rattle.bridge_courses.specs.Steps.{StepIsDone, Stops, Leads}
+use Rattle.bridge_courses.specs.{declared.ending.Ending.Ending, Courses.{Course, World}, Executions.{Works, NeverFalls}, Steps.first_step}
+use Rattle.bridge_courses.specs.Steps.{StepIsDone, Leads, only_end, with_step}
 use Rattle.bridge_courses.proofs.Stepping.{IsIdle, memory_first, read_fault_first, ends, stops, leads_on}
-use Rattle.bridge_report.specs.{Outcomes.IsRefusal, Following.{Followed, step_of, next_of, accepted_with, stream_line, end_by, course_from}}
-use Rattle.bridge_steps.specs.{declared.run.Following.Following, Follow.{course_of, rest_course, fault_line, IsBroken}, Streams.Stream}
-use Rattle.bridge_steps.specs.Streams.{with_first}
+use Rattle.bridge_report.specs.Outcomes.{IsRefusal}
+use Rattle.bridge_report.specs.Following.{Followed, step_of, next_of, accepted_with, stream_line, end_by, course_from, judged_from}
+use Rattle.bridge_steps.specs.{declared.run.Following.Following, Follow.{EndsIn, IsBroken, course_of, fault_line, files_seen, rest_course}}
+use Rattle.bridge_steps.specs.Streams.{Stream, with_first}
 
-module _ {S X : Type 0} (f : Followed S X) (s : S) (i a : ℕ) where
-  pub reads_first : (xs : List X) (end : Option (List ℕ)) → IsTrue (first_step (course_from f s i a xs end)).reads
-  unfolding course_from
-  reads_first [] end = refl
-  reads_first (x ∷ xs) end = refl
+-- the files that the next frame is judged by, where some were written
+abbrev pub files_after : (reads : Bool) → (written : List (List ℕ × List ℕ)) → Files → Files
+files_after false written files = files
+files_after true written files = put_all written files
 
-  module _ (stream : Stream X) (told : Ending) (before after : World) where
+pub seen_after : (reads : Bool) (written : List (List ℕ × List ℕ)) (before after : Option Files) (files : Files)
+    → files_seen reads before ≡ Some files → Changes (put_all written) before after
+    → files_seen reads after ≡ Some (files_after reads written files)
+seen_after false written before after files is changes = is
+seen_after true written before after files is changes = changes ∙ ap (option_map (put_all written)) is
+
+module _ {S X : Type 0} (reads : Bool) (told : Files → Followed S X) (files : Files) (s : S) (i a : ℕ) where
+  abbrev course : Stream X → Course
+  course = course_of reads told files s i a
+
+  first_reads : (by : Bool) (xs : List X) (end : Option FrameFault) → IsTrue (first_step (course_of by told files s i a (xs, end))).reads
+  unfolding course_from judged_from
+  first_reads false [] end = refl
+  first_reads false (x ∷ xs) end = refl
+  first_reads true [] end = refl
+  first_reads true (x ∷ xs) end = refl
+
+  pub reads_first : (stream : Stream X) → IsTrue (first_step (course stream)).reads
+  reads_first stream = first_reads reads stream.0 stream.1
+
+  ends_by : (by : Bool) (end : Option FrameFault) → course_of by told files s i a ([], end) ≡ only_end (end_by i a (option_map fault_line end))
+  unfolding course_from judged_from
+  ends_by false end = refl
+  ends_by true end = refl
+
+  module _ (stream : Stream X) (how : Ending) (before after : World) where
+    at_end : (end : Option FrameFault) → stream ≡ ([], end) → Works (only_end (end_by i a (option_map fault_line end))) how before after
+        → Works (course stream) how before after
+    at_end end is = subst (λ c. Works c how before after) (sym (ap course is ∙ ends_by reads end))
+
     -- the stream is read to its end
-    pub ended : stream ≡ ([], None) → (told ≡ ending.Ended verdict.Done (stream_line i a)) ⊎ (told ≡ ending.Memory) → IsIdle before after
-        → Works (course_of f s i a stream) told before after
-    unfolding course_from
-    ended is last idle = subst (λ st. Works (course_of f s i a st) told before after) (sym is) (ends
-        (end_by i a None) told before after last idle)
+    pub ended : stream ≡ ([], None) → (how ≡ ending.Ended verdict.Done (stream_line i a)) ⊎ (how ≡ ending.Memory) → IsIdle before after
+        → Works (course stream) how before after
+    ended is last idle = at_end None is (ends (end_by i a None) how before after last idle)
 
-    refused : (e : FrameFault) → stream ≡ ([], Some e) → IsRefusal (fault_line e) told → IsIdle before after
-        → Works (course_of f s i a stream) told before after
-    unfolding course_from
-    refused e is last idle = subst (λ st. Works (course_of f s i a st) told before after) (sym is)
-        (ends (end_by i a (Some (fault_line e))) told before after last idle)
+    refused : (e : FrameFault) → stream ≡ ([], Some e) → IsRefusal (fault_line e) how → IsIdle before after
+        → Works (course stream) how before after
+    refused e is last idle = at_end (Some e) is (ends (end_by i a (Some (fault_line e))) how before after last idle)
+
+    pub unread : how ≡ ending.ReadFault → Rose before.read_faults after.read_faults ⊎ Rose before.input_faults after.input_faults
+        → IsIdle before after → Works (course stream) how before after
+    unread is rose idle = subst (λ t. Works (course stream) t before after) (sym is)
+        (read_fault_first (course stream) before after (reads_first stream) rose idle)
 
     -- no frame is read, since the stream is broken there, or a read failed, or memory is wanting
-    pub broken : (e : FrameFault) → IfSome (refusal e) (λ e'. stream ≡ ([], Some e')) → IsBroken e told
-        → (e ≡ fault.Fault → Rose before.input_faults after.input_faults) → IsIdle before after → Works
-        (course_of f s i a stream) told before after
+    pub broken : (e : FrameFault) → IfSome (refusal e) (λ e'. stream ≡ ([], Some e')) → IsBroken e how
+        → (e ≡ fault.Fault → Rose before.input_faults after.input_faults) → IsIdle before after → Works (course stream) how before after
     broken (fault.Header place) is last rose idle = refused (fault.Header place) is last idle
     broken (fault.Cut place) is last rose idle = refused (fault.Cut place) is last idle
     broken (fault.TooMany place) is last rose idle = refused (fault.TooMany place) is last idle
-    broken fault.Fault is last rose idle = subst (λ t. Works (course_of f s i a stream) t before after) (sym last)
-        (read_fault_first (course_of f s i a stream) before after (reads_first stream.0 (option_map fault_line stream.1))
-        (inr (rose refl)) idle)
-    broken fault.Memory is last rose idle = subst (λ t. Works (course_of f s i a stream) t before after) (sym last)
-        (memory_first (course_of f s i a stream) before after idle)
+    broken fault.Fault is last rose idle = unread last (inr (rose refl)) idle
+    broken fault.Memory is last rose idle = subst (λ t. Works (course stream) t before after) (sym last)
+        (memory_first (course stream) before after idle)
 
   -- the step of the first frame is done, or the work ends in it
   module _ (x : X) (stream more : Stream X) (before after : World) (is : stream ≡ with_first (Some x) more) where
-    pub done : StepIsDone (step_of f s i x) before after → NeverFalls before after
-        → Leads (course_of f s i a stream) (course_of f (next_of f s x) (i + 1) (accepted_with f s x a) more) before after
-    unfolding course_from
-    done step falls = let rest = course_of f (next_of f s x) (i + 1) (accepted_with f s x a) more in
-        subst (λ st. Leads (course_of f s i a st) rest before after) (sym is) (leads_on (step_of f s i x) rest before after step falls)
+    abbrev rest : (by : Bool) → Course
+    rest by = course_of by told (files_after by (step_of (told files) s i x).files files) (next_of (told files) s x) (i + 1)
+        (accepted_with (told files) s x a) more
 
-    pub stopped : (told : Ending) → Stops (step_of f s i x) told before after → Works (course_of f s i a stream) told before after
-    unfolding course_from
-    stopped told step = let rest = course_of f (next_of f s x) (i + 1) (accepted_with f s x a) more in
-        subst (λ st. Works (course_of f s i a st) told before after) (sym is) (stops (step_of f s i x) rest told before after step)
+    goes_on : (by : Bool) → course_of by told files s i a (with_first (Some x) more) ≡ with_step (step_of (told files) s i x) (rest by)
+    unfolding course_from judged_from
+    goes_on false = refl
+    goes_on true = refl
+
+    pub done : StepIsDone (step_of (told files) s i x) before after → NeverFalls before after
+        → Leads (course stream) (rest reads) before after
+    done step falls = subst (λ c. Leads c (rest reads) before after) (sym (ap course is ∙ goes_on reads))
+        (leads_on (step_of (told files) s i x) (rest reads) before after step falls)
+
+    pub stopped : (how : Ending) → EndsIn (step_of (told files) s i x) how before after → Works (course stream) how before after
+    stopped how (inl step) = subst (λ c. Works c how before after) (sym (ap course is ∙ goes_on reads))
+        (stops (step_of (told files) s i x) (rest reads) how before after step)
+    stopped how (inr fails) =
+        unread stream how before after fails.0 (inl fails.1) (record { files = fails.2; report = fails.3; made = fails.4 })
 
 -- the same of a run that goes on
-pub next_leads : {S X : Type 0} (f : Followed S X) (stream : FramePos → List ℕ → Stream X) (run next : Following S)
-    (bytes rest : List ℕ) (x : X) (before mid : World)
-    → stream run.at bytes ≡ with_first (Some x) (stream next.at rest) → next.at.frames ≡ run.at.frames + 1
-    → next.live ≡ next_of f run.live x → next.accepted ≡ accepted_with f run.live x run.accepted
-    → StepIsDone (step_of f run.live run.at.frames x) before mid → NeverFalls before mid
-    → Leads (rest_course f stream run bytes) (rest_course f stream next rest) before mid
-next_leads f stream run next bytes rest x before mid is counts live accepted step falls =
-    let more = stream next.at rest in
-    let same : rest_course f stream next rest ≡ course_of f (next_of f run.live x) (run.at.frames + 1)
-    (accepted_with f run.live x run.accepted) more =
-    ap (λ s. course_of f s next.at.frames next.accepted more) live
-    ∙ ap (λ i. course_of f (next_of f run.live x) i next.accepted more) counts
-    ∙ ap (λ a. course_of f (next_of f run.live x) (run.at.frames + 1) a more) accepted in
-    subst (λ c. Leads (rest_course f stream run bytes) c before mid) (sym same)
-    (done f run.live run.at.frames run.accepted x (stream run.at bytes) more before mid is step falls)
+module _ {S X : Type 0} (reads : Bool) (told : Files → Followed S X) (stream : FramePos → List ℕ → Stream X) (files : Files) where
+  pub next_leads : (run next : Following S) (bytes rest : List ℕ) (x : X) (before mid : World)
+      → stream run.at bytes ≡ with_first (Some x) (stream next.at rest) → next.at.frames ≡ run.at.frames + 1
+      → next.live ≡ next_of (told files) run.live x → next.accepted ≡ accepted_with (told files) run.live x run.accepted
+      → StepIsDone (step_of (told files) run.live run.at.frames x) before mid → NeverFalls before mid
+      → Leads (rest_course reads told stream run files bytes) (rest_course reads told stream next
+      (files_after reads (step_of (told files) run.live run.at.frames x).files files) rest) before mid
+  next_leads run next bytes rest x before mid is counts live accepted step falls =
+      let f = told files in let more = stream next.at rest in
+      let later = files_after reads (step_of f run.live run.at.frames x).files files in
+      let same : rest_course reads told stream next later rest ≡ course_of reads told later (next_of f run.live x) (run.at.frames + 1)
+      (accepted_with f run.live x run.accepted) more =
+      ap (λ s. course_of reads told later s next.at.frames next.accepted more) live
+      ∙ ap (λ i. course_of reads told later (next_of f run.live x) i next.accepted more) counts
+      ∙ ap (λ a. course_of reads told later (next_of f run.live x) (run.at.frames + 1) a more) accepted in
+      subst (λ c. Leads (rest_course reads told stream run files bytes) c before mid) (sym same)
+      (done reads told files run.live run.at.frames run.accepted x (stream run.at bytes) more before mid is step falls)

@@ -3,12 +3,12 @@ use Rattle.bridge_io.specs.declared.outside.Fail.TheVariants as fail
 use Rattle.bridge_courses.specs.declared.status.Verdict.TheVariants as verdict
 use Rattle.bridge_courses.specs.declared.status.Status.TheVariants as status
 use Rattle.bridge_courses.specs.declared.ending.Ending.TheVariants as ending
-use Rattle.std.proofs.Common.{◌≡◌, ◌⊎◌, ◌+◌, ◌≤◌, ℕ, Bool, false, IsTrue, List, [], Option, None, Some, option_map, inl, inr, refl, sym, ap}
-use Rattle.std.proofs.{Common.{◌∙◌, subst, arith}, lemmas.List.append-nil}
+use Rattle.std.proofs.Common.{◌≡◌, ◌⊎◌, ◌+◌, ◌≤◌, ℕ, Bool, false, IsTrue, List, [], Option, option_map, inl, inr, refl, sym, ap}
+use Rattle.std.proofs.{Common.{◌∙◌, arith}, lemmas.List.append-nil}
 use Rattle.std.specs.Option.{ForSome}
 use Rattle.bridge_io.specs.{Fault.Rose, InOrder.put_all}
 use Rattle.bridge_courses.specs.{declared.status.Verdict.Verdict, declared.status.Status.Status, declared.ending.Ending.Ending}
-use Rattle.bridge_courses.specs.{Executions.{Works, Finishes, TellsAs, status_of, status_untold, words_line}, Steps.Work, Courses.Course}
+use Rattle.bridge_courses.specs.{Executions.{Works, Finishes, TellsAs, status_of, status_untold, words_line}, Steps.Work}
 use Rattle.bridge_courses.specs.Courses.{World, Whole, Step, Reaches, last_step}
 use Rattle.bridge_courses.proofs.Stepping.{none_put, none_told}
 use Rattle.bridge_report.specs.Outcomes.{Outcome, Ends, Writes, course_by, IsSaid, IsEnding}

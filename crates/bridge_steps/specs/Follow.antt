@@ -2,14 +2,16 @@
 use Rattle.bridge_jobs.specs.declared.frame.FrameFault.TheVariants as fault
 use Rattle.bridge_courses.specs.declared.ending.Ending.TheVariants as ending
 use Rattle.bridge_report.specs.declared.refusal.Refusal.TheVariants as refusal
-use Rattle.std.specs.Prelude.{◌≡◌, ℕ, ◌+◌, ◌≤◌, List, codes, Option, Some, None, option_map}
+use Rattle.std.specs.Prelude.{◌≡◌, ◌⊎◌, ℕ, ◌+◌, ◌≤◌, Bool, true, false, List, codes, Option, Some, None, option_and_then, option_map}
 use Rattle.std.specs.Option.{ForSome}
-use Rattle.bridge_io.specs.{Outside.Appends, declared.outside.Source.Ghosts as Source, declared.outside.Store.Ghosts as Store}
+use Rattle.bridge_io.specs.{Fault.Rose, Outside.{Appends, Files}, declared.outside.Source.Ghosts as Source}
+use Rattle.bridge_io.specs.declared.outside.Store.{Ghosts as Store}
 use Rattle.bridge_io.specs.{declared.outside.Sink.Ghosts as Sink}
 use Rattle.bridge_jobs.specs.{Frames.{IsFramePos, start}, declared.frame.FramePos.FramePos, declared.frame.FrameFault.FrameFault}
-use Rattle.bridge_courses.specs.{declared.ending.Ending.Ending, Courses.{Course, World}, Executions.NeverFalls}
-use Rattle.bridge_courses.specs.Steps.{Outside, Work, outside_of}
-use Rattle.bridge_report.specs.{Following.{Followed, course_from}, Outcomes.{IsRefusal, base_refused, course_by}, Refusals.refusal_line}
+use Rattle.bridge_courses.specs.{declared.ending.Ending.Ending, Courses.{Course, Step, World}, Executions.NeverFalls}
+use Rattle.bridge_courses.specs.Steps.{IsCaused, Outside, Stops, Work, outside_of}
+use Rattle.bridge_report.specs.{Following.{Followed, course_from, judged_from}, Outcomes.{IsRefusal, base_refused, course_by}}
+use Rattle.bridge_report.specs.Refusals.{refusal_line}
 use Rattle.bridge_steps.specs.{declared.run.Following.Following, Streams.Stream}
 
 -- a frame is accepted: the state after it, the number in its line, and how many segments are made
@@ -19,23 +21,47 @@ pub record Accepts {S X : Type 0} (f : Followed S X) (s : S) (x : X) (s' : S) (n
   pub appended : n ≡ f.appended s x
   pub made : m' ≡ m + f.makes s x
 
+-- The files that a frame is judged by: those of the store, where they are modelled, or none.
+abbrev pub files_seen : (reads : Bool) → Option Files → Option Files
+files_seen false files = Some (λ name. None)
+files_seen true files = files
+
+-- what holds by them, where they are known
+abbrev pub ForFiles : (reads : Bool) → Option Files → (Files → Type 0) → Type 0
+ForFiles reads files holds = ForSome (files_seen reads files) holds
+
 -- ---- the course
 
 -- a stream that isn't valid is rejected without a file name
 abbrev pub fault_line : FrameFault → List ℕ
 fault_line fault = refusal_line (codes "-") (refusal.Frame fault)
 
--- the course of the remaining stream, after some frames, some of which were accepted
-abbrev pub course_of : {S X : Type 0} → Followed S X → S → (frames accepted : ℕ) → Stream X → Course
-course_of f s i a stream = course_from f s i a stream.0 (option_map fault_line stream.1)
+-- the course of the remaining stream, after some frames, some of which were accepted, by whether frames are judged by files
+abbrev pub course_of : {S X : Type 0} → (reads : Bool) → (told : Files → Followed S X) → Files → S → (frames accepted : ℕ) → Stream X
+    → Course
+course_of false told files s i a stream = course_from (told files) s i a stream.0 (option_map fault_line stream.1)
+course_of true told files s i a stream = judged_from told files s i a stream.0 (option_map fault_line stream.1)
 
 -- the course of a stream of bytes, from a state
 abbrev pub follow_course : {S X : Type 0} → Followed S X → (stream : FramePos → List ℕ → Stream X) → S → (bytes : List ℕ) → Course
-follow_course f stream s bytes = course_of f s 0 0 (stream start bytes)
+follow_course f stream s bytes = let frames = stream start bytes in course_from f s 0 0 frames.0 (option_map fault_line frames.1)
 
--- the rest of it, given the state of a run and the remaining bytes
-abbrev pub rest_course : {S X : Type 0} → Followed S X → (stream : FramePos → List ℕ → Stream X) → Following S → (bytes : List ℕ) → Course
-rest_course f stream run bytes = course_of f run.live run.at.frames run.accepted (stream run.at bytes)
+-- the same, where each frame is judged by the files as they are then
+abbrev pub judged_course : {S X : Type 0} → (told : Files → Followed S X) → (stream : FramePos → List ℕ → Stream X) → S → Files
+    → (bytes : List ℕ) → Course
+judged_course told stream s files bytes = let frames = stream start bytes in
+    judged_from told files s 0 0 frames.0 (option_map fault_line frames.1)
+
+-- either, where the files that matter and the input are modelled
+abbrev pub whole_course : {S X : Type 0} → (reads : Bool) → (told : Files → Followed S X) → (stream : FramePos → List ℕ → Stream X) → S
+    → Option Files → (input : Option (List ℕ)) → Option Course
+whole_course reads told stream s files input =
+    option_and_then (λ seen. option_map (λ bytes. course_of reads told seen s 0 0 (stream start bytes)) input) (files_seen reads files)
+
+-- the rest of it, given the state of a run, the files and the remaining bytes
+abbrev pub rest_course : {S X : Type 0} → (reads : Bool) → (told : Files → Followed S X) → (stream : FramePos → List ℕ → Stream X)
+    → Following S → Files → (bytes : List ℕ) → Course
+rest_course reads told stream run files bytes = course_of reads told files run.live run.at.frames run.accepted (stream run.at bytes)
 
 -- a rejected base is reported whatever the input contains
 abbrev pub course_placed : {P : Type 0} → (P → Option Course) → Option P → Option Course
@@ -60,6 +86,11 @@ IsBroken f told = IsRefusal (fault_line f) told
 abbrev pub Grows : (before after : Option (List ℕ)) → Type 0
 Grows before after = (lines : List ℕ) × Appends lines before after
 
+-- The work of a run ended in the step of a frame; or a read of the store failed before it, and nothing else was done.
+abbrev pub EndsIn : Step → Ending → (before after : World) → Type 0
+EndsIn step told before after = Stops step told before after ⊎ ((told ≡ ending.ReadFault) × Rose before.read_faults after.read_faults
+    × (after.files ≡ before.files) × (after.report ≡ before.report) × (after.made ≡ before.made))
+
 -- ---- the environment
 
 -- the environment of a run: the input, the store and the report, and how many segments were made
@@ -74,17 +105,21 @@ world_of source store sink input files report made = record {
   made = made;
 }
 
--- the same for a frame that was read: the input isn't touched
-abbrev pub beside_input : {F P : Type 0} → Store F → Sink P → F → P → (made : ℕ) → World
-beside_input store sink files report made = record {
+-- the same beside the input
+abbrev pub world_beside : {F P : Type 0} → Store F → Sink P → (input_faults : ℕ) → F → P → (made : ℕ) → World
+world_beside store sink input_faults files report made = record {
   files = store.files files;
   report = sink.written report;
-  input_faults = 0;
+  input_faults = input_faults;
   read_faults = store.read_faults files;
   write_faults = store.write_faults files;
   report_faults = sink.faults report;
   made = made;
 }
+
+-- for a frame that was read: the input isn't touched
+abbrev pub beside_input : {F P : Type 0} → Store F → Sink P → F → P → (made : ℕ) → World
+beside_input store sink = world_beside store sink 0
 
 -- and where no segment is made
 abbrev pub outside_at : {F P : Type 0} → Store F → Sink P → F → P → Outside
@@ -95,3 +130,16 @@ pub record RunsAs (course : Option Course) (end : Ending) (before after : World)
   pub work : ForSome course (λ course. Work course end before after)
   pub never_falls : NeverFalls before after
   pub told : Grows before.report after.report
+
+-- ---- causes
+
+-- an I/O error has its cause, a read error in the input or in the store, and no work ends with `Words`
+abbrev pub IsCausedByEither : Ending → (before after : World) → Type 0
+IsCausedByEither ending.ReadFault before after =
+    Rose before.input_faults after.input_faults ⊎ Rose before.read_faults after.read_faults
+IsCausedByEither told before after = IsCaused told before after
+
+-- in the store only where frames are judged by its files
+abbrev pub IsCausedBy : (reads : Bool) → Ending → (before after : World) → Type 0
+IsCausedBy false told before after = IsCaused told before after
+IsCausedBy true told before after = IsCausedByEither told before after

@@ -1,20 +1,22 @@
 // Following.
-ghost use Rattle.std.specs.Prelude.{◌≡◌, ℕ, ◌+◌, ◌<◌, ◌≤◌, List, Option, Some, IfOk, IfErr, IfSome, OnOk, OnErr};
+ghost use Rattle.std.specs.Prelude.{◌≡◌, ℕ, ◌+◌, ◌<◌, ◌≤◌, Bool, true, false, List, Option, Some, IfOk, IfErr, IfSome, OnOk};
+ghost use Rattle.std.specs.Prelude.{OnErr, IsErrOf};
 ghost use Rattle.bridge_io.specs.Fault.{HasCause};
 ghost use Rattle.bridge_io.specs.InOrder.{put_all, AreBegun};
-ghost use Rattle.bridge_io.specs.Outside.{Changes};
+ghost use Rattle.bridge_io.specs.Outside.{Changes, Files};
 ghost use Rattle.bridge_io.specs.declared.out_fault.OutFault.TheVariants.{WriteFault};
 ghost use Rattle.bridge_jobs.specs.Frames.{IsFramePos, most_frames};
 ghost use Rattle.bridge_jobs.specs.declared.frame.FramePos.{FramePos};
 ghost use Rattle.bridge_jobs.specs.declared.frame.FrameFault.TheVariants.{Fault};
 ghost use Rattle.bridge_report.specs.Following.{Followed};
-ghost use Rattle.bridge_report.specs.Refusals.{refusal_text, refused_in};
-ghost use Rattle.bridge_steps.specs.Follow.{Accepts};
+ghost use Rattle.bridge_report.specs.FrameStops.{frame_text};
+ghost use Rattle.bridge_report.specs.declared.frame_stop.FrameStop.TheVariants.{ReadFault};
+ghost use Rattle.bridge_steps.specs.Follow.{Accepts, ForFiles};
 ghost use Rattle.bridge_steps.specs.Streams.{Stream, ReadsFirst};
 
 use bridge_io::{Ledger, Source, Steps, Store};
 use bridge_jobs::{FrameFault, FramePos};
-use bridge_report::Stop;
+use bridge_report::FrameStop;
 use hls_writer::OutFault;
 use std::alloc::Global;
 
@@ -27,8 +29,11 @@ pub trait Follow {
     /// The state after the accepted frames.
     type Live: Drop;
 
-    /// Why frames are rejected, the state after them, and its files.
-    ghost told: { Self → Followed Self.Live Self.Frame };
+    /// Whether frames are judged by the store's files.
+    ghost reads: { Self → Bool } = { λ _. false };
+
+    /// Why frames are rejected, by the store's files, the state after them, and its files.
+    ghost told: { Self → Files → Followed Self.Live Self.Frame };
 
     /// How many frames were accepted.
     ghost accepted: { Self → Self.Live → ℕ };
@@ -58,24 +63,32 @@ pub trait Follow {
         ensures cause { HasCause Fault (I.faults input.old) (I.faults input.new) result };
 
     /// Applies a frame, and returns how many segments it appended; or why it is rejected, and then nothing is
-    /// changed.
-    fn accept<L: Ledger>(
+    /// changed. Files of the store may be read; they stay as they are.
+    fn accept<F: Store, L: Ledger>(
         &self,
         alloc: Global,
         live: &mut Self::Live,
         frame: &Self::Frame,
+        store: &mut F,
         steps: &mut Steps<L>,
-    ) -> Result<u64, Stop>
+    ) -> Result<u64, FrameStop>
         requires few { accepted self.now live.old < most_frames }
         requires kept { is_kept self.now live.old }
         requires read { is_read self.now frame.now }
-        ensures accepted { IfOk result (λ n. Accepts (told self.now) live.old frame.now live.new n steps.old steps.new) }
-        ensures refused { IfErr result (λ stop. IfSome (refused_in stop) (λ r. (told self.now).refusal live.old frame.now
-            ≡ Some (refusal_text r))) }
+        ensures accepted { ForFiles (reads self.now) (F.files store.old) (λ files. IfOk result (λ n.
+            Accepts (told self.now files) live.old frame.now live.new n steps.old steps.new)) }
+        ensures refused { ForFiles (reads self.now) (F.files store.old) (λ files. IfErr result (λ stop. IfSome (frame_text stop) (λ text.
+            (told self.now files).refusal live.old frame.now ≡ Some text))) }
         ensures same { OnErr result (live.new ≡ live.old) }
-        ensures made { OnErr result ((steps.old ≤ steps.new) × (steps.new ≤ steps.old + (told self.now).makes live.old frame.now)) }
+        ensures made { ForFiles (reads self.now) (F.files store.old) (λ files. OnErr result ((steps.old ≤ steps.new)
+            × (steps.new ≤ steps.old + (told self.now files).makes live.old frame.now))) }
         ensures counts { OnOk result (accepted self.now live.new ≡ accepted self.now live.old + 1) }
-        ensures kept { is_kept self.now live.new };
+        ensures kept { is_kept self.now live.new }
+        ensures cause { HasCause ReadFault (F.read_faults store.old) (F.read_faults store.new) result }
+        ensures read_fault { IsErrOf result ReadFault → (reads self.now ≡ true) × (steps.new ≡ steps.old) }
+        ensures unread { reads self.now ≡ false → F.read_faults store.new ≡ F.read_faults store.old }
+        ensures files { F.files store.new ≡ F.files store.old }
+        ensures writes { F.write_faults store.new ≡ F.write_faults store.old };
 
     /// Writes the files for the state after the accepted frames, of which there is at least one.
     fn publish<F: Store>(
@@ -86,8 +99,10 @@ pub trait Follow {
     ) -> Result<(), OutFault>
         requires some { 0 < accepted self.now live.now }
         requires kept { is_kept self.now live.now }
-        ensures ok { OnOk result (Changes (put_all ((told self.now).files live.now)) (F.files store.old) (F.files store.new)) }
-        ensures err { OnErr result (AreBegun ((told self.now).files live.now) (F.files store.old) (F.files store.new)) }
+        ensures ok { ForFiles (reads self.now) (F.files store.old) (λ files. OnOk result
+            (Changes (put_all ((told self.now files).files live.now)) (F.files store.old) (F.files store.new))) }
+        ensures err { ForFiles (reads self.now) (F.files store.old) (λ files. OnErr result
+            (AreBegun ((told self.now files).files live.now) (F.files store.old) (F.files store.new))) }
         ensures cause { HasCause WriteFault (F.write_faults store.old) (F.write_faults store.new) result }
         ensures reads { F.read_faults store.new ≡ F.read_faults store.old };
 }

@@ -51,9 +51,9 @@ first_time (segment ∷ segments) = segment.time
 abbrev pub part_of : LiveSegment → Part
 part_of segment = record { address = segment.address; range = segment.range }
 
--- in nanoseconds relative to the Period's start
+-- in the ticks of the run
 abbrev pub live_list : Form → LiveRun → Element
-live_list form run = segments_with form (10 ^ 9) None (first_time run.segments) run.initialization
+live_list form run = segments_with form run.scale run.offset (first_time run.segments) run.initialization
     (map (λ (segment : LiveSegment). segment.duration) run.segments) (map part_of run.segments)
 
 abbrev pub live_lists : Form → LiveMpd → (section place : ℕ) → List Element

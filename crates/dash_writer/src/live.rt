@@ -57,6 +57,10 @@ pub struct LivePeriod {
 pub struct LiveRun {
     /// The init segment.
     pub initialization: Part,
+    /// How many ticks make a second: `@timescale` (5.3.9.2).
+    pub scale: u32,
+    /// The media time of the Period's start, in ticks: `@presentationTimeOffset`; `None` isn't written, and is 0.
+    pub offset: Option<u64>,
     /// The listed segments in order, one after another.
     pub segments: LiveSegmentList,
 }
@@ -68,10 +72,10 @@ pub struct LiveSegment {
     pub address: Address,
     /// Its byte range; `None` is the whole file.
     pub range: Option<Range>,
-    /// When it begins, in nanoseconds relative to the Period's start.
+    /// Its media time: when it begins, in ticks of the run.
     pub time: u64,
-    /// How long it lasts.
-    pub duration: Nanos,
+    /// How long it lasts, in ticks.
+    pub duration: u64,
 }
 
 /// Periods in order.
@@ -85,8 +89,8 @@ pub type LiveSegmentList = Sequence<LiveSegment>;
 
 /// Writes the MPD of a live presentation (ISO/IEC 23009-1, 5.3): until the presentation has ended a dynamic one with
 /// `@publishTime` and `@minimumUpdatePeriod`, and then a static one that lasts until the last Period's longest track ends. A
-/// Period has its number and its start, and times are nanoseconds; the first S has the time of the first listed segment. Each
-/// track is written in the form, as by [`write_mpd`](crate::write_mpd).
+/// Period has its number and its start, and the segments of a track are in the ticks of its run; the first S has the time of the
+/// first listed segment. Each track is written in the form, as by [`write_mpd`](crate::write_mpd).
 ///
 /// Requires that the years of the timestamps are 1000 to 9999, and that each track has a run in each Period. The text has the
 /// segments' times where each one begins when the one before it ends.
@@ -210,8 +214,8 @@ fn push_run<F: Store>(
 {
     let segments = run.segments.as_slice();
     let head = ListHead {
-        ticks: 1_000_000_000,
-        offset: None,
+        ticks: u64::from(run.scale),
+        offset: run.offset,
         first: first_time(segments),
         initialization: &run.initialization,
     };
@@ -252,7 +256,7 @@ impl Durations for LiveSegments<'_> {
     fn next_duration(&mut self) -> Option<u128> {
         let (first, others) = self.left.split_first()?;
         self.left = others;
-        Some(u128::from(first.duration.0))
+        Some(u128::from(first.duration))
     }
 }
 

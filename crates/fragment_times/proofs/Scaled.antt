@@ -33,7 +33,7 @@ in_file range (Some file) n is =
     let scale = steps_of (alone_in (codes "trak") moov.value (track_scale moov.value)) unless_none n moov.then in
     unless_zero scale.value n scale.then
 
-in_part : (folder : List ℕ) (files : Files) (part : Part) (n : ℕ) → scale_at folder files part ≡ Ok n → 0 < n
+pub in_part : (folder : List ℕ) (files : Files) (part : Part) (n : ℕ) → scale_at folder files part ≡ Ok n → 0 < n
 unfolding scale_at
 in_part folder files part n is =
     let file = steps_of (file_of folder part) _ n is in

@@ -1,5 +1,5 @@
 -- The durations of segments, by the decode times of their files.
-use Rattle.std.specs.Prelude.{ℕ, zero, suc, ◌+◌, ◌*◌, ◌-◌, ◌^◌, ◌<◌, max, sum, nat_lt, nat_le, ◌||◌, Bool, false, List, [], ◌∷◌}
+use Rattle.std.specs.Prelude.{ℕ, zero, suc, ◌+◌, ◌*◌, ◌-◌, ◌/◌, ◌^◌, ◌<◌, max, sum, nat_lt, nat_le, ◌||◌, Bool, false, List, [], ◌∷◌}
 use Rattle.std.specs.{Prelude.{length, take, drop, slice_get, if◌then◌else◌, Option, Some, None, Result, Ok, Err}, Int.div_ceil}
 use Rattle.std.specs.Option.{option_map_or}
 use Rattle.bridge_io.specs.Answer.{and_then, gathered}
@@ -86,6 +86,10 @@ ticks_in form scale x = max (rounded_in form scale (lasting_of x)) 1
 abbrev pub last_ticks : Form → (scale : ℕ) → Option Timing → ℕ
 last_ticks form scale None = 1
 last_ticks form scale (Some x) = ticks_in form scale x
+
+-- a number of nanoseconds in ticks, to the nearest one, halves up, and at least one
+abbrev pub nearest_ticks : (scale nanos : ℕ) → ℕ
+nearest_ticks scale nanos = max (div_ceil (nanos * (2 * scale) / 10 ^ 9) 2) 1
 
 -- ---- section by section, track by track
 

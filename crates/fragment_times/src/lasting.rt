@@ -1,5 +1,6 @@
 // The durations of segments, by the decode times of their files.
-ghost use Rattle.std.specs.Prelude.{◌≡◌, ◌+◌, ◌-◌, ◌*◌, ◌/◌, ◌<◌, ◌≤◌, ◌^◌, All, IfOk, IfSome, length, option_map, pos, sum, unsigned_abs};
+ghost use Rattle.std.specs.Prelude.{◌≡◌, ◌+◌, ◌-◌, ◌*◌, ◌/◌, ◌<◌, ◌≤◌, ◌^◌, All, IfOk, IfSome, get_or, length, pos, sum};
+ghost use Rattle.std.specs.Prelude.{option_map, unsigned_abs};
 ghost use Rattle.bridge_io.specs.Answer.{Gives};
 ghost use Rattle.exact_time.specs.Floor.{floor_in};
 ghost use Rattle.exact_time.specs.Tick.{time_of};
@@ -14,7 +15,7 @@ ghost use Rattle.fragment_times.specs.Times.{FillPlaces, IsScaled, behind};
 
 use crate::{FileFault, PeriodStart, SegmentSpot, SegmentTimes, TimesFault, TimesList};
 use bridge_io::{NoMemory, Sequence};
-use exact_time::Tick;
+use exact_time::{Nanos, Tick};
 use presentation::Presentation;
 use segment_forms::Form;
 use std::alloc::Global;
@@ -268,14 +269,15 @@ fn total(ticks: &[u64]) -> u64
     ticks.iter().sum()
 }
 
-/// How a track's segments in a section are counted.
+/// How a track's segments in a Period are counted.
 #[derive(Clone, Copy)]
-struct Clock {
-    form: Form,
+pub struct Clock {
+    /// The form of MPD.
+    pub form: Form,
     /// How many ticks make a second.
-    scale: u32,
+    pub scale: u32,
     /// When the Period starts, in ticks.
-    offset: u64,
+    pub offset: u64,
 }
 
 impl Clock {
@@ -297,9 +299,11 @@ impl Clock {
     }
 }
 
-/// The durations of segments that begin at these times; the last one lasts `last` ticks. `at` is the spot of the
-/// first one.
-fn ticks_of(
+/// How many ticks each segment of a track in a Period lasts, where they begin at these times and the last one lasts `last` ticks. `at` is
+/// the spot of the first one.
+///
+/// The errors are those of a segment by [`durations`], tried segment by segment.
+pub fn ticks_of(
     alloc: Global,
     at: SegmentSpot,
     clock: Clock,
@@ -309,6 +313,7 @@ fn ticks_of(
     requires { at.segment + length starts.now < 2 ^ 64 }
     ensures ticks { Gives (λ ticks. ticks) refusal result (spec.ticks_of at clock last starts.now) }
     ensures short { IfOk result spec.IsShort }
+    ensures ends { IfOk result (λ ticks. get_or starts.now 0 0 + sum ticks < 2 ^ 63) }
     ensures no_fault { IsNoFault result }
 {
     let Some((first, later)) = starts.split_first() else {
@@ -337,6 +342,7 @@ impl Begun {
         requires { self.at.segment + length later.now < 2 ^ 64 - 1 }
         ensures ticks { Gives (λ ticks. ticks) refusal result (spec.ticks_from clock last self later.now) }
         ensures short { IfOk result spec.IsShort }
+        ensures ends { IfOk result (λ ticks. self.start + sum ticks < 2 ^ 63) }
         ensures no_fault { IsNoFault result }
     {
         let mut ticks = TickSeq::new(alloc);
@@ -407,6 +413,18 @@ fn rounded_in(form: Form, span: &Span, scale: u32) -> u64
         Form::Plain => floor_in(span, u64::from(scale)),
         Form::Players => floor_in(span, 2 * u64::from(scale)).div_ceil(2),
     }
+}
+
+/// A duration in ticks of which `scale` make a second, to the nearest one, halves up, and at least one.
+///
+/// Requires that it is at most 1,000,000 s.
+pub fn nearest_ticks(duration: Nanos, scale: u32) -> u64
+    requires { duration ≤ 10 ^ 15 }
+    ensures { result ≡ spec.nearest_ticks scale duration }
+{
+    floor(u128::from(duration.0), 1_000_000_000, 2 * u64::from(scale))
+        .div_ceil(2)
+        .max(1)
 }
 
 /// The duration of a listed segment in units of which `unit` make a second, rounded down.

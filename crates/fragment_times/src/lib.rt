@@ -16,7 +16,7 @@ mod told;
 
 pub use agreement::first_apart;
 pub use fault::{SegmentSpot, TimesFault};
-pub use lasting::{DurationsList, TickSeq, durations};
+pub use lasting::{Clock, DurationsList, TickSeq, durations, nearest_ticks, ticks_of};
 pub use laws::{
     last_durations_are_the_nearest, offsets_are_one_time, periods_start_before_their_segments,
     times_are_scaled, tracks_in_step_begin_at_their_offsets,
@@ -24,5 +24,6 @@ pub use laws::{
 pub use layer_faults::times::FileFault;
 pub use listing::listing_at;
 pub use origin::Origin;
+pub use part::{part_scale, part_start};
 pub use period_start::PeriodStart;
 pub use times::{SegmentTimes, StartList, TimesList, fragment_times};

@@ -55,9 +55,15 @@ fn reach_of(range: Option<Range>) -> Reach
     }
 }
 
-/// The timescale of an init segment.
+/// The timescale of an init segment, in ticks per second (ISO/IEC 14496-12, 8.4.2). `folder` is the URL of the store's folder.
+///
+/// At most the first 1,048,576 bytes of the part are read; where the first 65,536 of these contain the whole `moov`, no others. The
+/// store's files stay as they are.
+///
+/// `OutsideBase` comes before the faults of the file, which come in the order of [`FileFault`](crate::FileFault). `Fault` comes only
+/// where the store's count of failed reads rose.
 #[tactic(auto, unfolding(crate::specs::Parts::scale_at, crate::specs::Told::media_scale_of))]
-pub(crate) fn scale_at<F: Store>(
+pub fn part_scale<F: Store>(
     alloc: Global,
     folder: &Base,
     part: &Part,
@@ -77,9 +83,10 @@ pub(crate) fn scale_at<F: Store>(
     }
 }
 
-/// The decode time of a segment.
+/// The decode time of a segment's first sample, in ticks of its init segment's timescale, below 2^63 (ISO/IEC 14496-12, 8.8.12). It is
+/// read as the timescale by [`part_scale`], from the bytes up to the end of the first `moof`, with the same errors.
 #[tactic(auto, unfolding(crate::specs::Parts::start_at, crate::specs::Told::decode_time_of))]
-pub(crate) fn start_at<F: Store>(
+pub fn part_start<F: Store>(
     alloc: Global,
     folder: &Base,
     part: &Part,

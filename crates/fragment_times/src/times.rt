@@ -14,7 +14,7 @@ ghost use Rattle.fragment_times.specs.Times as spec;
 
 use crate::TimesFault;
 use crate::listing::listing_at;
-use crate::part::{scale_at, start_at};
+use crate::part::{part_scale, part_start};
 use bridge_io::{Ledger, NoMemory, Sequence, Steps, Store};
 use presentation::Presentation;
 use std::alloc::Global;
@@ -142,7 +142,7 @@ impl Reading<'_> {
         ensures writes { F.write_faults store.new ≡ F.write_faults store.old }
     {
         let initialization = self.presentation.initialization(section, track);
-        let scale = scale_at(alloc, self.folder, initialization, store)?;
+        let scale = part_scale(alloc, self.folder, initialization, store)?;
         let listing = listing_at(self.presentation, section, track);
         let starts = self.starts(alloc, listing, store, steps)?;
         Ok(SegmentTimes { scale, starts })
@@ -166,7 +166,7 @@ impl Reading<'_> {
         let mut starts = StartList::new(alloc);
         while let Some(segment) = next_segment(alloc, &mut listing, steps)? {
             let part = segment.into_part();
-            starts.push(start_at(alloc, self.folder, &part, store)?)?;
+            starts.push(part_start(alloc, self.folder, &part, store)?)?;
         }
         Ok(starts)
     }

@@ -98,11 +98,11 @@ last_are_listed tracks rounds new place track is = from_first tracks Any
 -- ---- what each accepted round leaves
 
 -- each number is at least the one before it and one
-abbrev Rises : (from : ℕ) → List ℕ → Type 0
+abbrev pub Rises : (from : ℕ) → List ℕ → Type 0
 Rises from [] = Unit {0}
 Rises from (n ∷ numbers) = (from ≤ n) × Rises (n + 1) numbers
 
-abbrev number_of : LivePeriod → ℕ
+abbrev pub number_of : LivePeriod → ℕ
 number_of period = period.number
 
 -- so many tracks are kept as flags say, of which each is listed, in Periods whose numbers rise
@@ -111,7 +111,7 @@ record IsWhole (tracks : List MasterTrack) (f : Followed) : Type 0 where
   numbers : Rises 0 (map number_of f.mpd.periods)
   lists : (place : ℕ) (track : FollowedTrack) → slice_get f.tracks place ≡ Some track → ListsTrack f place track
 
-kept_length : (flags : List Bool) (xs ys : List Source) → length xs ≡ length ys → length (kept_by flags xs) ≡ length (kept_by flags ys)
+pub kept_length : (flags : List Bool) (xs ys : List Source) → length xs ≡ length ys → length (kept_by flags xs) ≡ length (kept_by flags ys)
 kept_length [] [] [] is = refl
 kept_length [] [] (y ∷ ys) is = absurd (omega arith)
 kept_length [] (x ∷ xs) [] is = absurd (omega arith)
@@ -122,7 +122,7 @@ kept_length (flag ∷ flags) (x ∷ xs) [] is = absurd (omega arith)
 kept_length (true ∷ flags) (x ∷ xs) (y ∷ ys) is = ap suc (kept_length flags xs ys (omega arith))
 kept_length (false ∷ flags) (x ∷ xs) (y ∷ ys) is = kept_length flags xs ys (omega arith)
 
-sources_length : (tracks : List MasterTrack) (medias : List Media) → length medias ≡ length tracks
+pub sources_length : (tracks : List MasterTrack) (medias : List Media) → length medias ≡ length tracks
     → length (sources tracks medias) ≡ length tracks
 sources_length [] medias is = refl
 sources_length (track ∷ tracks) [] is = absurd (omega arith)
@@ -159,7 +159,7 @@ rises_behind s (next ∷ later) rising =
         let e : sections_behind (Some s.section) (next ∷ later) ≡ next.section ∷ sections_behind (Some next.section) later = rw b refl in
         subst (Rises (s.section + 1)) (sym e) (omega (arith, other), more))
 
-sections_rise : (media : Media) → IsBounded media → Rises 0 (sections_of media)
+pub sections_rise : (media : Media) → IsBounded media → Rises 0 (sections_of media)
 sections_rise media bounded = by media.segments bounded.sections
   where
     by : (segments : List MediaSegment) → IsNonDecreasingBy (λ (t : MediaSegment). t.section) segments
@@ -301,7 +301,7 @@ are_true true true false s is = absurd (cc)
 are_true true false r s is = absurd (cc)
 are_true false q r s is = absurd (cc)
 
-same_listed : (a b : MediaSegment) (time : ℕ) → same_segment a b ≡ true → a.section ≡ b.section → listed_as a time ≡ listed_as b time
+pub same_listed : (a b : MediaSegment) (time : ℕ) → same_segment a b ≡ true → a.section ≡ b.section → listed_as a time ≡ listed_as b time
 same_listed a b time same section =
     let t = are_true (bytes_eq a.address b.address) (option_eq same_range a.range b.range) (eqb a.duration b.duration)
     (option_eq same_part a.map b.map) same in
@@ -311,7 +311,7 @@ same_listed a b time same section =
     let of = same_options same_part same_parts a.map b.map t.four in
     cc
 
-judged_at : (judge : ℕ → Option FollowedTrack → Media → Result (Unit {0}) LiveFault) (formers : List FollowedTrack) (from place : ℕ)
+pub judged_at : (judge : ℕ → Option FollowedTrack → Media → Result (Unit {0}) LiveFault) (formers : List FollowedTrack) (from place : ℕ)
     (kept : List Source) (s : Source) → judged_all judge formers from kept ≡ Ok tt → slice_get kept place ≡ Some s
     → judge (from + place) (slice_get formers (from + place)) s.media ≡ Ok tt
 judged_at judge formers from place [] s judged is = absurd (cc)

@@ -1,5 +1,4 @@
 -- What is refused of a track, rule by rule.
-use Rattle.reload_law.specs.declared.unlawful.Unlawful.TheVariants as rules
 use Rattle.std.proofs.Common.{◌≡◌, ◌<◌, ◌+◌, ℕ, List, [], ◌∷◌, map, length, drop, get_or, slice_get, Option, Result, Ok, Err, refl, sym}
 use Rattle.std.proofs.Common.{◌∙◌, ap}
 use Rattle.bridge_io.specs.{Answer.and_then, Firsts.first_fault}

@@ -1,4 +1,8 @@
 pub mod Bounded
+pub mod Telling
+pub mod Snapshots
+pub mod Spotted
+pub mod Placing
 pub mod Cutting
 pub mod Gathering
 pub mod Timing
@@ -13,3 +17,16 @@ pub mod Sections
 pub mod Listing
 pub mod Histories
 pub mod Runs
+pub mod OwnParts
+pub mod Cells
+pub mod CellFacts
+pub mod OwnListing
+pub mod OwnTracks
+pub mod OwnRuns
+pub mod OwnHistories
+pub mod OwnStaying
+pub mod OwnRows
+pub mod InStep
+pub mod Available
+pub mod Stretching
+pub mod TimedPeriods

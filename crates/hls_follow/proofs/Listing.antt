@@ -59,7 +59,7 @@ listed_group : (period : LivePeriod) (run : LiveRun) (group : List TimedSegment)
 listed_group period run [] is are = absurd (cc)
 listed_group period run (t ∷ group) is are =
     let x = steps_of (periods.initialization_in t.segment.map) _ run is in
-    let same : record { initialization = x.value; segments = periods.live_segments (t ∷ group) } ≡ run = (let h = x.then in cc) in
+    let same : periods.nominal_run x.value (t ∷ group) ≡ run = (let h = x.then in cc) in
     let first = All-head (λ (t : TimedSegment). t.segment.map ≡ are.map) t group are.maps in
     let of : are.map ≡ Some run.initialization = sym first ∙ listed_map x.value t.segment.map x.first
     ∙ ap (λ (r : LiveRun). Some r.initialization) same in

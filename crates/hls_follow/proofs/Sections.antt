@@ -167,7 +167,7 @@ flat (t ∷ rest) = put_flat t (groups_of rest) ∙ ap (λ (ts : List TimedSegme
 
 -- ---- what is judged of one track
 
-no_change : (media : Media) → judged_segments_of media ≡ Ok tt → map_changes media.segments ≡ false
+pub no_change : (media : Media) → judged_segments_of media ≡ Ok tt → map_changes media.segments ≡ false
 no_change media is = by (lacks_maps media) (map_changes media.segments) (has_empty media.segments) is
   where
     by : (l m e : Bool) → first_fault (map fault_of_track (fault_if l NoMap ++ (fault_if m MapChanged ++ fault_if e ZeroDuration))) ≡ Ok tt

@@ -1,5 +1,6 @@
 -- What stays from one accepted round to the next.
 use Rattle.hls_follow.specs.Periods as periods
+use Rattle.hls_follow.specs.Periods.{last_end}
 use Rattle.std.proofs.Common.{◌≡◌, ℕ, zero, suc, ◌+◌, ◌-◌, ◌<◌, ◌^◌, Bool, true, false, leb, ltb, max, List, [], ◌∷◌, map, length}
 use Rattle.std.proofs.{Common.{slice_get, All, Option, Some, None, Ok, Err, ℤ, refl, sym, ◌∙◌, ap, subst, arith}, lemmas.Bool.le-ltb}
 use Rattle.std.proofs.lemmas.List.Elements.{All-nil, All-cons}
@@ -16,7 +17,7 @@ use Rattle.hls_follow.specs.{declared.state.FollowedTrack.FollowedTrack, declare
 use Rattle.hls_follow.specs.{Groups.{groups_of, row_at, row_end}, Kept.{flags_of, formers_of, periods_of}, Laws.NumbersKeepTheirTimes}
 use Rattle.hls_follow.specs.{Laws.{SectionsKeepTheirStarts, StartsStay}, Rounds.{followed_by, followed_of, followed_tracks, followed_with}}
 use Rattle.hls_follow.specs.{Rounds.{judged_tracks, kept_in, mpd_of, mpd_or_fault, placed_of, start_of, times_in}, Rules.common_sections}
-use Rattle.hls_follow.specs.Rules.{judged_all, judged_at, judged_count, judged_reload, judged_section, judged_segments}
+use Rattle.hls_follow.specs.Rules.{judged_all, judged_at, judged_count, judged_reload, judged_section, judged_segments, judged_updates}
 use Rattle.hls_follow.specs.Times.{behind_segment, former_time, is_late, last_of, time_of, timed_all, timed_from, timed_of, unless_late}
 
 -- ---- the parts of what an accepted round leaves
@@ -38,7 +39,7 @@ pub record Parts (former : Option Followed) (all : List Source) (new : Followed)
   pub judged : Judged (formers_of former) kept sections
   pub times : timed_all (formers_of former) 0 kept ≡ Ok timed
   pub periods : periods.periods_from (periods_of former) (map groups_of timed) (periods.last_end (periods_of former)) 0 sections ≡ Ok listed
-  pub starts : start_of former now listed ≡ Ok start
+  pub starts : start_of former now (last_end listed) ≡ Ok start
   pub flags : new.kept ≡ flags_of former all
   pub tracks : new.tracks ≡ followed_tracks kept timed
   pub mpd : new.mpd ≡ mpd_of start now listed kept
@@ -53,8 +54,8 @@ placed_parts former now all sections new judged is =
     let a = steps_of (timed_all (formers_of former) 0 kept) _ new is in
     let b = steps_of (periods.periods_from (periods_of former) (map groups_of a.value) (periods.last_end
     (periods_of former)) 0 sections) _ new a.then in
-    let c = steps_of (mpd_or_fault former now b.value kept) _ new b.then in
-    let d = steps_of (start_of former now b.value) _ c.value c.first in
+    let c = steps_of (mpd_or_fault former now (periods.last_end b.value) b.value kept) _ new b.then in
+    let d = steps_of (start_of former now (periods.last_end b.value)) _ c.value c.first in
     let whole : followed_with flags kept a.value c.value ≡ new = (let h = c.then in cc) in
     let mpd : mpd_of d.value now b.value kept ≡ c.value = (let h = d.then in cc) in
     record {
@@ -76,7 +77,7 @@ placed_parts former now all sections new judged is =
 
 pub parts_of : (tracks : List MasterTrack) (former : Option Followed) (now : ℤ) (medias : List Media) (new : Followed)
     → followed_of tracks former now medias ≡ Ok new → Parts former (sources tracks medias) new
-unfolding followed_of judged_tracks
+unfolding followed_of judged_tracks judged_updates
 parts_of tracks former now medias new is =
     let all = sources tracks medias in
     let kept = kept_in former all in
@@ -84,11 +85,12 @@ parts_of tracks former now medias new is =
     let a = steps_of (judged_at former now) (λ _. followed_by former now all) new is in
     let b = steps_of (judged_tracks formers kept) (placed_of former now (flags_of former all) kept) new a.then in
     let segments = steps_of (judged_segments kept) _ b.value b.first in
-    let sections = steps_of (common_sections kept) _ b.value segments.then in
-    let reloads = steps_of (judged_all judged_reload formers 0 kept) _ b.value sections.then in
-    let judged_sections = steps_of (judged_all judged_section formers 0 kept) _ b.value reloads.then in
-    let count = steps_of (judged_count sections.value kept) _ b.value judged_sections.then in
-    let same : sections.value ≡ b.value = (let h = count.then in cc) in
+    let updates = steps_of (judged_updates formers kept) _ b.value segments.then in
+    let sections = steps_of (common_sections kept) _ updates.value updates.first in
+    let reloads = steps_of (judged_all judged_reload formers 0 kept) _ updates.value sections.then in
+    let judged_sections = steps_of (judged_all judged_section formers 0 kept) _ updates.value reloads.then in
+    let count = steps_of (judged_count updates.value kept) _ b.value updates.then in
+    let same : sections.value ≡ b.value = (let h = judged_sections.then in let i = count.then in cc) in
     placed_parts former now all b.value new
     (record { segments = segments.first; common = sections.first ∙ ap Ok same; reloads = reloads.first }) b.then
 
@@ -172,7 +174,7 @@ numbers_stay old new a b number time follows track lists is =
 abbrev Stays : List LivePeriod → LivePeriod → Type 0
 Stays known period = (e : Extent) → periods.known_in period.number known ≡ Some e → period.start ≡ e.start
 
-within_by : (start longest : ℕ) (extent : Extent) (late : Bool) → leb (10 ^ 19) (start + longest) ≡ late
+pub within_by : (start longest : ℕ) (extent : Extent) (late : Bool) → leb (10 ^ 19) (start + longest) ≡ late
     → periods.within_limit start longest ≡ Ok extent → extent.start ≡ start
 within_by start longest extent true late is = absurd (let h : periods.within_limit start longest ≡ Err Limit = rw late refl in cc)
 within_by start longest extent false late is =
@@ -180,7 +182,7 @@ within_by start longest extent false late is =
     let same : record { start = start; longest = longest } ≡ extent = cc in
     ap (λ (e : Extent). e.start) (sym same)
 
-starts_by : (known : Option Extent) (former longest : ℕ) (extent e : Extent) → periods.extent_of known former longest ≡ Ok extent
+pub starts_by : (known : Option Extent) (former longest : ℕ) (extent e : Extent) → periods.extent_of known former longest ≡ Ok extent
     → known ≡ Some e → extent.start ≡ e.start
 starts_by (Some k) former longest extent e is listed = within_by k.start (max k.longest longest) extent (leb (10 ^ 19)
     (k.start + max k.longest longest)) refl is ∙ ap (λ (e : Extent). e.start) (let same : k ≡ e = cc in same)

@@ -2,7 +2,7 @@
 use Rattle.std.specs.Prelude.{◌<◌, ◌^◌, Bool, List, [], ◌∷◌, map, All, Option, Some, None, if◌then◌else◌}
 use Rattle.hls_media.specs.Laws.{IsBounded}
 use Rattle.hls_presentation.specs.Tracks.{Source, is_kept}
-use Rattle.dash_writer.specs.{Live.IsLive, declared.live.LivePeriod.LivePeriod}
+use Rattle.dash_writer.specs.{Live.IsLive, declared.live.LivePeriod.LivePeriod, declared.live.LiveRun.LiveRun}
 use Rattle.hls_follow.specs.{declared.state.Followed.Followed, declared.state.FollowedTrack.FollowedTrack}
 
 -- before the first accepted snapshot there are none
@@ -35,7 +35,15 @@ AreBounded sources = All (λ (s : Source). IsBounded s.media) sources
 abbrev pub IsEarly : FollowedTrack → Type 0
 IsEarly track = track.media.sequence < 2 ^ 63
 
+-- at least one tick per second
+abbrev pub HasScale : LiveRun → Type 0
+HasScale run = 0 < run.scale
+
+abbrev pub HasScales : LivePeriod → Type 0
+HasScales period = All HasScale period.runs
+
 -- the state after accepted snapshots
 pub record IsSound (f : Followed) : Type 0 where
   pub early : All IsEarly f.tracks
   pub live : IsLive f.mpd
+  pub scaled : All HasScales f.mpd.periods

@@ -5,6 +5,14 @@ pub mod Rules
 pub mod Groups
 pub mod Periods
 pub mod Rounds
+pub mod Stretches
+pub mod OwnTimes
+pub mod Maps
+pub mod Ticks
+pub mod TimedPeriods
+pub mod TimedRounds
 pub mod Laws
 pub mod Listed
 pub mod Histories
+pub mod TimedHistories
+pub mod TimedListed

@@ -26,8 +26,12 @@ abbrev pub initialization_of : List TimedSegment → Result Part LiveFault
 initialization_of [] = Err NoMap
 initialization_of (t ∷ group) = initialization_in t.segment.map
 
+-- in nanoseconds relative to the section's start
+abbrev pub nominal_run : Part → List TimedSegment → LiveRun
+nominal_run part group = record { initialization = part; scale = 10 ^ 9; offset = None; segments = live_segments group }
+
 abbrev pub run_of : List TimedSegment → Result LiveRun LiveFault
-run_of group = and_then (initialization_of group) (λ part. Ok (record { initialization = part; segments = live_segments group }))
+run_of group = and_then (initialization_of group) (λ part. Ok (nominal_run part group))
 
 abbrev pub runs_of : List (List TimedSegment) → Result (List LiveRun) LiveFault
 runs_of [] = Ok []

@@ -10,8 +10,8 @@ use Rattle.layer_faults.specs.declared.live.LiveFault.{LiveFault}
 use Rattle.layer_faults.specs.declared.live.LiveFault.TheVariants.{Limit}
 use Rattle.hls_follow.specs.{declared.state.Followed.Followed, declared.state.FollowedTrack.FollowedTrack}
 use Rattle.hls_follow.specs.{declared.state.TimedSegment.TimedSegment, Groups.groups_of, Kept.{flags_of, formers_of, kept_by, periods_of}}
-use Rattle.hls_follow.specs.{Periods.{last_end, periods_from}, Rules.{appended_from, common_sections, judged_all, judged_at, judged_count}}
-use Rattle.hls_follow.specs.{Rules.{judged_reload, judged_section, judged_segments}, Times.timed_all}
+use Rattle.hls_follow.specs.{Periods.{last_end, periods_from}, Rules.{appended_from, judged_at, judged_count}}
+use Rattle.hls_follow.specs.{Rules.{judged_segments, judged_updates}, Times.timed_all}
 
 -- ---- the presentation by a snapshot
 
@@ -25,10 +25,11 @@ from_1583 start = if int_lt start (neg_ℤ (pos 12_212_553_600_000_000_000)) the
 abbrev pub first_start : (now : ℤ) → (end : ℕ) → Result ℤ LiveFault
 first_start now end = from_1583 (whole_millis (now -ℤ pos end))
 
--- When the presentation begins: what the first accepted snapshot lists ends at that snapshot's time; this never changes.
-abbrev pub start_of : Option Followed → (now : ℤ) → List LivePeriod → Result ℤ LiveFault
-start_of (Some former) now periods = Ok former.mpd.start
-start_of None now periods = first_start now (last_end periods)
+-- When the presentation begins: what the first accepted snapshot lists is available, some time after it begins, at that snapshot's
+-- time; this never changes.
+abbrev pub start_of : Option Followed → (now : ℤ) → (end : ℕ) → Result ℤ LiveFault
+start_of (Some former) now end = Ok former.mpd.start
+start_of None now end = first_start now end
 
 -- the greatest target duration
 abbrev pub target_of : List Source → ℕ
@@ -49,19 +50,22 @@ mpd_of start now periods kept = record {
   periods = periods;
 }
 
-abbrev pub mpd_or_fault : Option Followed → (now : ℤ) → List LivePeriod → List Source → Result LiveMpd LiveFault
-mpd_or_fault former now periods kept = and_then (start_of former now periods) (λ start. Ok (mpd_of start now periods kept))
+abbrev pub mpd_or_fault : Option Followed → (now : ℤ) → (end : ℕ) → List LivePeriod → List Source → Result LiveMpd LiveFault
+mpd_or_fault former now end periods kept = and_then (start_of former now end) (λ start. Ok (mpd_of start now periods kept))
 
 -- ---- the state after a snapshot
 
 abbrev pub times_in : List TimedSegment → List ℕ
 times_in timed = map (λ (t : TimedSegment). t.time) timed
 
+abbrev pub followed_track : Source → (times : List ℕ) → FollowedTrack
+followed_track s times = record { media = s.media; times = times }
+
 -- each kept track's playlist with its times
 abbrev pub followed_tracks : List Source → List (List TimedSegment) → List FollowedTrack
 followed_tracks [] all = []
 followed_tracks (s ∷ kept) [] = []
-followed_tracks (s ∷ kept) (timed ∷ all) = record { media = s.media; times = times_in timed } ∷ followed_tracks kept all
+followed_tracks (s ∷ kept) (timed ∷ all) = followed_track s (times_in timed) ∷ followed_tracks kept all
 
 abbrev pub followed_with : List Bool → List Source → List (List TimedSegment) → LiveMpd → Followed
 followed_with flags kept timed mpd = record { kept = flags; tracks = followed_tracks kept timed; mpd = mpd }
@@ -69,7 +73,7 @@ followed_with flags kept timed mpd = record { kept = flags; tracks = followed_tr
 abbrev pub followed_at : Option Followed → (now : ℤ) → List Bool → List Source → List (List TimedSegment) → List LivePeriod
     → Result Followed LiveFault
 followed_at former now flags kept timed periods =
-    and_then (mpd_or_fault former now periods kept) (λ mpd. Ok (followed_with flags kept timed mpd))
+    and_then (mpd_or_fault former now (last_end periods) periods kept) (λ mpd. Ok (followed_with flags kept timed mpd))
 
 -- its times and its Periods, within their limits
 unfoldable pub placed_of : Option Followed → (now : ℤ) → List Bool → List Source → (sections : List ℕ) → Result Followed LiveFault
@@ -82,10 +86,8 @@ placed_of former now flags kept sections =
 unfoldable pub judged_tracks : List FollowedTrack → List Source → Result (List ℕ) LiveFault
 judged_tracks formers kept =
     and_then (judged_segments kept) (λ _.
-    and_then (common_sections kept) (λ sections.
-    and_then (judged_all judged_reload formers 0 kept) (λ _.
-    and_then (judged_all judged_section formers 0 kept) (λ _.
-    and_then (judged_count sections kept) (λ _. Ok sections)))))
+    and_then (judged_updates formers kept) (λ sections.
+    and_then (judged_count sections kept) (λ _. Ok sections)))
 
 abbrev pub kept_in : Option Followed → List Source → List Source
 kept_in former all = kept_by (flags_of former all) all

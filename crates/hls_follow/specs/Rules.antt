@@ -105,6 +105,13 @@ judged_section track (Some former) media = section_told track (last_in former.me
 
 -- ---- the whole
 
+-- the sections of the tracks, or the first error of all playlists together and as updates of those before
+unfoldable pub judged_updates : List FollowedTrack → List Source → Result (List ℕ) LiveFault
+judged_updates formers kept =
+    and_then (common_sections kept) (λ sections.
+    and_then (judged_all judged_reload formers 0 kept) (λ _.
+    and_then (judged_all judged_section formers 0 kept) (λ _. Ok sections)))
+
 abbrev pub count_of : List Source → ℕ
 count_of kept = sum_by (λ (s : Source). length s.media.segments) kept
 

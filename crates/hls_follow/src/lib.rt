@@ -5,10 +5,19 @@ mod follow;
 mod groups;
 mod kept;
 mod laws;
+mod maps;
 mod periods;
+mod reading;
 mod round;
 mod rules;
+mod snapshot;
 mod state;
+mod stretches;
+mod ticks;
+mod timed_fault;
+mod timed_laws;
+mod timed_periods;
+mod timed_round;
 mod times;
 
 pub use follow::{Appended, Follow};
@@ -18,3 +27,8 @@ pub use laws::{
     times_are_contiguous_from_the_first,
 };
 pub use layer_faults::LiveFault;
+pub use timed_fault::TimedFault;
+pub use timed_laws::{
+    first_lists_are_available, timed_periods_are_in_step, timed_playlists_are_listed,
+    timed_runs_go_on, timed_segments_stay, timed_starts_stay, times_are_own,
+};

@@ -3,6 +3,7 @@ ghost use Rattle.std.specs.Prelude.{◌≡◌, ◌<◌, ◌^◌, All, length, If
 ghost use Rattle.bridge_io.specs.Answer.{Gives};
 ghost use Rattle.hls_follow.specs.Faults.{told};
 ghost use Rattle.hls_follow.specs.Groups.{row_at};
+ghost use Rattle.hls_follow.specs.Kept.{HasScale, HasScales};
 ghost use Rattle.hls_follow.specs.Periods as spec;
 
 use crate::LiveFault;
@@ -32,6 +33,7 @@ pub(crate) fn periods_of(
     ensures periods { Gives (λ periods. periods) told result
         (spec.periods_from known.now tracks.now (spec.last_end known.now) 0 sections.now) }
     ensures filled { IfOk result (λ periods. All (λ p. length p.runs ≡ length tracks.now) periods) }
+    ensures scaled { IfOk result (All HasScales) }
 {
     let mut periods = LivePeriodList::new(alloc);
     let mut former = last_end(known);
@@ -57,6 +59,7 @@ fn period_of(
     requires { former < 2 ^ 66 }
     ensures period { Gives (λ period. period) told result (spec.period_of known.now former number (row_at tracks.now place)) }
     ensures filled { IfOk result (λ period. length period.runs ≡ length tracks.now) }
+    ensures scaled { IfOk result HasScales }
 {
     let extent = extent_of(known_in(number, known), former, row_end(tracks, place))?;
     let runs = runs_of(alloc, tracks, place)?;
@@ -69,7 +72,7 @@ fn period_of(
 }
 
 /// What is known of a section.
-fn known_in(number: u64, periods: &[LivePeriod]) -> Option<Extent>
+pub(crate) fn known_in(number: u64, periods: &[LivePeriod]) -> Option<Extent>
     ensures { result ≡ spec.known_in number periods.now }
 {
     for period in periods {
@@ -84,9 +87,13 @@ fn known_in(number: u64, periods: &[LivePeriod]) -> Option<Extent>
 }
 
 /// When a section begins and ends, after what ends at `former`, where its longest track now ends at `longest`.
-fn extent_of(known: Option<Extent>, former: u128, longest: u128) -> Result<Extent, LiveFault>
+pub(crate) fn extent_of(
+    known: Option<Extent>,
+    former: u128,
+    longest: u128,
+) -> Result<Extent, LiveFault>
     requires former { former < 2 ^ 66 }
-    requires longest { longest < 2 ^ 66 }
+    requires longest { longest < 2 ^ 95 }
     ensures { result ≡ spec.extent_of known former longest }
 {
     match known {
@@ -100,7 +107,7 @@ fn extent_of(known: Option<Extent>, former: u128, longest: u128) -> Result<Exten
 
 fn within_limit(start: u128, longest: u128) -> Result<Extent, LiveFault>
     requires start { start < 2 ^ 66 }
-    requires longest { longest < 2 ^ 66 }
+    requires longest { longest < 2 ^ 95 }
     ensures { result ≡ spec.within_limit start longest }
 {
     if 10_000_000_000_000_000_000 <= start + longest {
@@ -115,7 +122,7 @@ fn within_limit(start: u128, longest: u128) -> Result<Extent, LiveFault>
 /// When the last section ends.
 pub(crate) fn last_end(periods: &[LivePeriod]) -> u128
     ensures end { result ≡ spec.last_end periods.now }
-    ensures near { result < 2 ^ 66 }
+    ensures near { result < 2 ^ 65 }
 {
     match periods.last() {
         Some(period) => end_of(period),
@@ -123,9 +130,9 @@ pub(crate) fn last_end(periods: &[LivePeriod]) -> u128
     }
 }
 
-fn end_of(period: &LivePeriod) -> u128
+pub(crate) fn end_of(period: &LivePeriod) -> u128
     ensures end { result ≡ spec.end_of period.now }
-    ensures near { result < 2 ^ 66 }
+    ensures near { result < 2 ^ 65 }
 {
     u128::from(period.start.0) + u128::from(period.longest.0)
 }
@@ -134,6 +141,7 @@ fn end_of(period: &LivePeriod) -> u128
 fn runs_of(alloc: Global, tracks: &[Groups<'_>], place: usize) -> Result<LiveRunList, LiveFault>
     ensures runs { Gives (λ runs. runs) told result (spec.runs_of (row_at tracks.now place)) }
     ensures filled { IfOk result (λ runs. length runs ≡ length tracks.now) }
+    ensures scaled { IfOk result (All HasScale) }
 {
     let mut runs = LiveRunList::new(alloc);
     for track in tracks {
@@ -143,12 +151,15 @@ fn runs_of(alloc: Global, tracks: &[Groups<'_>], place: usize) -> Result<LiveRun
 }
 
 fn run_of(alloc: Global, group: Group<'_>) -> Result<LiveRun, LiveFault>
-    ensures { Gives (λ run. run) told result (spec.run_of group.now) }
+    ensures run { Gives (λ run. run) told result (spec.run_of group.now) }
+    ensures scaled { IfOk result HasScale }
 {
     let initialization = initialization_of(alloc, group)?;
     let segments = segments_of(alloc, group)?;
     Ok(LiveRun {
         initialization,
+        scale: 1_000_000_000,
+        offset: None,
         segments,
     })
 }
@@ -184,6 +195,6 @@ fn segment_of(alloc: Global, timed: &TimedSegment) -> Result<LiveSegment, NoMemo
         address,
         range: timed.segment.range,
         time: timed.time,
-        duration: timed.segment.duration,
+        duration: timed.segment.duration.0,
     })
 }

@@ -16,14 +16,11 @@ use crate::LiveFault;
 use crate::groups::groups_of_all;
 use crate::kept::{flags_of, formers_of, kept_by, periods_of as former_periods};
 use crate::periods::{last_end, periods_of};
-use crate::rules::{
-    SectionList, appended_by, check_count, check_now, check_reloads, check_sections, check_tracks,
-    common_sections,
-};
+use crate::rules::{SectionList, appended_by, check_count, check_now, check_tracks, check_updates};
 use crate::state::{Followed, FollowedList, FollowedTrack, KeptList, TimeList, TimedList};
 use crate::times::time_all;
 use bridge_io::NoMemory;
-use dash_writer::{LiveMpd, LivePeriod, LivePeriodList};
+use dash_writer::{LiveMpd, LivePeriodList};
 use hls_master::MasterTrack;
 use hls_media::Media;
 use hls_presentation::{Source, sources_of, tracks_of};
@@ -99,9 +96,7 @@ fn judge_tracks(
     ensures few { IfOk result (λ sections. count_of (map source_of kept.now) ≤ 500_000) }
 {
     check_tracks(kept)?;
-    let sections = common_sections(alloc, kept)?;
-    check_reloads(formers, kept)?;
-    check_sections(formers, kept)?;
+    let sections = check_updates(alloc, formers, kept)?;
     check_count(sections.as_slice(), kept)?;
     Ok(sections)
 }
@@ -126,7 +121,8 @@ fn place(
     let timed = time_all(alloc, formers_of(former), kept)?;
     let groups = groups_of_all(alloc, timed.as_slice())?;
     let periods = periods_of(alloc, former_periods(former), &groups, sections)?;
-    let mpd = mpd_of(alloc, former, now, kept, periods)?;
+    let end = last_end(periods.as_slice());
+    let mpd = mpd_of(alloc, former, now, end, kept, periods)?;
     let tracks = followed_tracks(alloc, kept, timed.as_slice())?;
     Ok(Followed {
         kept: flags,
@@ -135,21 +131,24 @@ fn place(
     })
 }
 
-/// The MPD of these Periods.
-fn mpd_of(
+/// The MPD of these Periods. What a first snapshot lists is available `end` nanoseconds after the presentation begins.
+pub(crate) fn mpd_of(
     alloc: Global,
     former: Option<&Followed>,
     now: Instant,
+    end: u128,
     kept: &[Source<'_>],
     periods: LivePeriodList,
 ) -> Result<LiveMpd, LiveFault>
     requires now { IsReadable now }
     requires sound { IfSome (option_copied former) IsSound }
+    requires near { end < 2 ^ 66 }
     requires filled { All (λ p. length p.runs ≡ length kept.now) periods }
     ensures live { IfOk result (λ mpd. IsLive mpd) }
-    ensures mpd { Gives (λ mpd. mpd) told result (spec.mpd_or_fault (option_copied former.entry) now periods (map source_of kept.now)) }
+    ensures listed { IfOk result (λ mpd. mpd.periods ≡ periods) }
+    ensures mpd { Gives (λ mpd. mpd) told result (spec.mpd_or_fault (option_copied former.entry) now end periods (map source_of kept.now)) }
 {
-    let start = start_of(former, now, periods.as_slice())?;
+    let start = start_of(former, now, end)?;
     let tracks = tracks_of(alloc, kept)?;
     Ok(LiveMpd {
         start,
@@ -162,19 +161,16 @@ fn mpd_of(
 }
 
 /// When the presentation begins.
-fn start_of(
-    former: Option<&Followed>,
-    now: Instant,
-    periods: &[LivePeriod],
-) -> Result<Instant, LiveFault>
+fn start_of(former: Option<&Followed>, now: Instant, end: u128) -> Result<Instant, LiveFault>
     requires now { IsReadable now }
+    requires near { end < 2 ^ 66 }
     requires sound { IfSome (option_copied former) IsSound }
     ensures writable { IfOk result (λ start. IsWritable start) }
-    ensures start { result ≡ spec.start_of (option_copied former.entry) now periods.now }
+    ensures start { result ≡ spec.start_of (option_copied former.entry) now end }
 {
     match former {
         Some(former) => Ok(former.mpd.start),
-        None => first_start(now, last_end(periods)),
+        None => first_start(now, end),
     }
 }
 
@@ -193,7 +189,7 @@ fn first_start(now: Instant, end: u128) -> Result<Instant, LiveFault>
 }
 
 /// The greatest target duration.
-fn target_of(kept: &[Source<'_>]) -> u64
+pub(crate) fn target_of(kept: &[Source<'_>]) -> u64
     ensures { result ≡ spec.target_of (map source_of kept.now) }
 {
     let mut target = 0;
@@ -230,12 +226,23 @@ fn followed_tracks(
         let Some((first, later)) = timed.split_first() else {
             return Ok(tracks);
         };
-        let media = source.media.copy(alloc)?;
         let times = times_of(alloc, first)?;
-        tracks.push(FollowedTrack { media, times })?;
+        tracks.push(followed_track(alloc, source, times)?)?;
         timed = later;
     }
     Ok(tracks)
+}
+
+/// A kept track's playlist with its times.
+pub(crate) fn followed_track(
+    alloc: Global,
+    source: &Source<'_>,
+    times: TimeList,
+) -> Result<FollowedTrack, NoMemory>
+    ensures { IfOk result (λ track. track ≡ spec.followed_track (source_of source.now) times) }
+{
+    let media = source.media.copy(alloc)?;
+    Ok(FollowedTrack { media, times })
 }
 
 fn times_of(alloc: Global, timed: &TimedList) -> Result<TimeList, NoMemory>

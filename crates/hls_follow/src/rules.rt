@@ -50,7 +50,7 @@ pub(crate) fn check_tracks(kept: &[Source<'_>]) -> Result<(), LiveFault>
     Ok(())
 }
 
-fn check_track(media: &Media) -> Result<(), LiveFault>
+pub(crate) fn check_track(media: &Media) -> Result<(), LiveFault>
     ensures { result ≡ spec.judged_segments_of media.now }
 {
     match check_segments(media) {
@@ -69,8 +69,25 @@ fn fault_of_track(fault: HlsFault) -> LiveFault
     }
 }
 
+/// The sections of the tracks, or the first error of all playlists together and as updates of those before.
+#[tactic(auto, unfolding(crate::specs::Rules::judged_updates))]
+pub(crate) fn check_updates(
+    alloc: Global,
+    formers: &[FollowedTrack],
+    kept: &[Source<'_>],
+) -> Result<SectionList, LiveFault>
+    requires early { All IsEarly formers.now }
+    requires bounded { AreBounded (map source_of kept.now) }
+    ensures { Gives (λ sections. sections) told result (spec.judged_updates formers.now (map source_of kept.now)) }
+{
+    let sections = common_sections(alloc, kept)?;
+    check_reloads(formers, kept)?;
+    check_sections(formers, kept)?;
+    Ok(sections)
+}
+
 /// The section numbers that all tracks have.
-pub(crate) fn common_sections(alloc: Global, kept: &[Source<'_>]) -> Result<SectionList, LiveFault>
+fn common_sections(alloc: Global, kept: &[Source<'_>]) -> Result<SectionList, LiveFault>
     ensures { Gives (λ sections. sections) told result (spec.common_sections (map source_of kept.now)) }
 {
     let sections = sections_in(alloc, kept)?;
@@ -120,7 +137,7 @@ fn sections_of(alloc: Global, media: &Media) -> Result<SectionList, NoMemory>
 }
 
 /// Whether each track's playlist is a valid update of its previous one.
-pub(crate) fn check_reloads(formers: &[FollowedTrack], kept: &[Source<'_>]) -> Result<(), LiveFault>
+fn check_reloads(formers: &[FollowedTrack], kept: &[Source<'_>]) -> Result<(), LiveFault>
     requires early { All IsEarly formers.now }
     requires bounded { AreBounded (map source_of kept.now) }
     ensures { result ≡ spec.judged_all spec.judged_reload formers.now 0 (map source_of kept.now) }
@@ -152,10 +169,7 @@ fn check_reload(
 }
 
 /// Whether no track continues in a section before that of its last segment.
-pub(crate) fn check_sections(
-    formers: &[FollowedTrack],
-    kept: &[Source<'_>],
-) -> Result<(), LiveFault>
+fn check_sections(formers: &[FollowedTrack], kept: &[Source<'_>]) -> Result<(), LiveFault>
     ensures { result ≡ spec.judged_all spec.judged_section formers.now 0 (map source_of kept.now) }
 {
     let mut place = 0;

@@ -9,7 +9,7 @@ use hls_media::{Media, MediaSegment};
 pub(crate) struct FollowedTrack {
     /// The playlist.
     pub(crate) media: Media,
-    /// When its segments begin, in nanoseconds relative to their sections' starts.
+    /// When its segments begin: in nanoseconds relative to their sections' starts, or in ticks where these are the times of their files.
     pub(crate) times: TimeList,
 }
 

@@ -100,7 +100,8 @@ fn is_same_map(map: &Option<Part>, other: &Option<Part>) -> bool
     }
 }
 
-fn is_same_part(part: &Part, other: &Part) -> bool
+/// Whether two parts have the same URL and the same byte range.
+pub fn is_same_part(part: &Part, other: &Part) -> bool
     ensures { result ≡ spec.same_part part.now other.now }
 {
     part.address.as_str() == other.address.as_str() && part.range == other.range

@@ -13,11 +13,11 @@ use std::alloc::Global;
 use std::marker::Model;
 
 /// The segments of one track in one section.
-pub(crate) type Segments<'a> = &'a [MediaSegment];
+pub type Segments<'a> = &'a [MediaSegment];
 
 /// The segments of one track, cut where the section changes.
 #[derive(Drop)]
-pub(crate) struct Groups<'a> {
+pub struct Groups<'a> {
     groups: Vec<Segments<'a>>,
 }
 
@@ -44,14 +44,15 @@ impl<'a> Groups<'a> {
         Ok(Groups { groups })
     }
 
-    fn len(&self) -> usize
+    /// How many sections the track has.
+    pub fn len(&self) -> usize
         ensures { result ≡ length self.now }
     {
         self.groups.len()
     }
 
     /// The segments of the track in the section at an index.
-    pub(crate) fn at(&self, place: usize) -> Segments<'a>
+    pub fn at(&self, place: usize) -> Segments<'a>
         ensures { result.now ≡ spec.group_at place self.now }
     {
         match self.groups.get(place) {
@@ -77,10 +78,7 @@ impl<'a> Groups<'a> {
 }
 
 /// The segments of each track, cut where the section changes.
-pub(crate) fn groups_of_all<'a>(
-    alloc: Global,
-    tracks: &[Source<'a>],
-) -> Result<Vec<Groups<'a>>, NoMemory>
+pub fn groups_of_all<'a>(alloc: Global, tracks: &[Source<'a>]) -> Result<Vec<Groups<'a>>, NoMemory>
     ensures { IfOk result (λ groups. groups.items ≡ map spec.groups_in (map source_of tracks.now)) }
 {
     let mut groups = Vec::new(alloc);

@@ -9,7 +9,8 @@ mod laws;
 mod playlists;
 mod tracks;
 
-pub use checks::{check_segments, check_so_far};
+pub use checks::{check_segments, check_so_far, is_same_part};
+pub use groups::{Groups, Segments, groups_of_all};
 pub use kept::{Source, is_left_out, kept_of, lacks_maps, left_out_of, sources_of};
 pub use laws::{
     only_faults_are_refused, playlists_are_counted, presented_are_laid_out, what_is_read_is_silent,

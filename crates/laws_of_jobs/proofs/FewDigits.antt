@@ -45,6 +45,7 @@ few_by verb.HlsIndex rows = free job.HlsIndex (index_of rows) (λ _. tt)
 few_by verb.DashTimes rows = free job.DashTimes (master_of rows) (λ _. tt)
 few_by verb.Agree rows = free job.Agree (agree_of rows) (λ _. tt)
 few_by verb.FollowHls rows = free job.FollowHls (master_of rows) (λ _. tt)
+few_by verb.FollowHlsTimes rows = free job.FollowHlsTimes (master_of rows) (λ _. tt)
 few_by verb.Compare rows = free job.Compare (compare_of rows) (λ _. tt)
 
 few_words : (words : List (List ℕ)) → IfSome (job_of words) HasFew

@@ -24,7 +24,7 @@ use Rattle.laws_of_jobs.proofs.{Periods.{IsReadRun, periods_read, readable_perio
 
 -- ---- what is kept
 
-kept_fit : (flags : List Bool) (all : List Source) → All IsFit all → All IsFit (kept_by flags all)
+pub kept_fit : (flags : List Bool) (all : List Source) → All IsFit all → All IsFit (kept_by flags all)
 kept_fit [] all fit = All-nil IsFit
 kept_fit (flag ∷ flags) [] fit = All-nil IsFit
 kept_fit (true ∷ flags) (s ∷ all) fit =
@@ -51,8 +51,8 @@ published_at tracks former now medias new is =
     let b = steps_of (judged_tracks (formers_of former) kept) (placed_of former now flags kept) new a.then in
     let c = steps_of (timed_all (formers_of former) 0 kept) _ new b.then in
     let d = steps_of (periods_from (periods_of former) (map groups_of c.value) (last_end (periods_of former)) 0 b.value) _ new c.then in
-    let e = steps_of (mpd_or_fault former now d.value kept) _ new d.then in
-    let f = steps_of (start_of former now d.value) _ e.value e.first in
+    let e = steps_of (mpd_or_fault former now (last_end d.value) d.value kept) _ new d.then in
+    let f = steps_of (start_of former now (last_end d.value)) _ e.value e.first in
     published_in flags kept c.value d.value f.value now e.value new (let h = e.then in cc) (let h = f.then in cc)
 
 -- The first round's presentation begins no earlier than an instant that can be read, and no later than that round was read.
@@ -72,14 +72,14 @@ begins_readable now end begin read is =
 -- ---- a round
 
 -- what is there before it begins at an instant that can be read
-abbrev BeginsReadable : Option Followed → Type 0
+abbrev pub BeginsReadable : Option Followed → Type 0
 BeginsReadable None = Unit {0}
 BeginsReadable (Some former) = IsReadable former.mpd.start
 
-start_readable : (former : Option Followed) (now start : ℤ) (listed : List LivePeriod) → BeginsReadable former → IsReadable now
-    → start_of former now listed ≡ Ok start → IsReadable start
-start_readable None now start listed was read is = begins_readable now (last_end listed) start read is
-start_readable (Some former) now start listed was read is =
+pub start_readable : (former : Option Followed) (now start : ℤ) (end : ℕ) → BeginsReadable former → IsReadable now
+    → start_of former now end ≡ Ok start → IsReadable start
+start_readable None now start end was read is = begins_readable now end start read is
+start_readable (Some former) now start end was read is =
     subst IsReadable (let same : former.mpd.start ≡ start = cc in same) was
 
 -- an MPD that can be read, of which each segment lasts
@@ -122,7 +122,7 @@ round_readable tracks former round new told was read is =
     (both IsBounded HaveAddresses round.1 read.0.bounded read.1.addresses) in
     let now : round.0 ≡ p.now = sym (published_at tracks former round.0 round.1 new is) ∙ ap (λ (m : LiveMpd). m.published) p.mpd in
     let instant = subst IsReadable now read.1.instant in
-    made_readable former all new p fit (start_readable former p.now p.start p.listed was instant p.starts) instant
+    made_readable former all new p fit (start_readable former p.now p.start (last_end p.listed) was instant p.starts) instant
 
 -- ---- over rounds
 

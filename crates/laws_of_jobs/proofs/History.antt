@@ -12,7 +12,7 @@ use Rattle.hls_follow.specs.declared.state.Followed.{Followed}
 use Rattle.bridge_io.specs.Answer.{told_as}
 use Rattle.presentation.proofs.Filling.{ok_under}
 use Rattle.bridge_jobs.specs.{Frames.start, declared.round.Round.Round}
-use Rattle.bridge_report.specs.{Following.unless_refused, Laws.{accepted_in, state_after}, Refusals.refusal_text}
+use Rattle.bridge_report.specs.{Following.{Followed as Told, unless_refused}, Laws.{accepted_in, state_after}, Refusals.refusal_text}
 use Rattle.bridge_report.specs.declared.refusal.Refusal.{Refusal}
 use Rattle.bridge_jobs.specs.declared.jobs.MasterJob.{MasterJob}
 use Rattle.bridge_reach.specs.RoundLaws.{left_by}
@@ -81,7 +81,7 @@ module _ (bounded : ReadIsBounded) where
         ap length (sym same) ∙ length-append medias (a.value ∷ []),
       )
 
-  all_more : (urls bodies : List (List ℕ)) (medias more : List Media) → medias_behind medias urls bodies ≡ Ok more → All IsBounded medias
+  pub all_more : (urls bodies : List (List ℕ)) (medias more : List Media) → medias_behind medias urls bodies ≡ Ok more → All IsBounded medias
       → length bodies ≡ length urls → All IsBounded more × (length more ≡ length medias + length urls)
   all_more [] bodies medias more is all each = let same : medias ≡ more = cc in
       (subst (All IsBounded) same all, omega (arith, ap length same))
@@ -143,24 +143,19 @@ module _ (bounded : ReadIsBounded) where
             (λ same. others ((followed_rounds (hls_of job tracks)).after s x) same)
         go (Some why) refused others = others s kept
 
--- what rounds leave that are gone over in two parts
-both : (hls : LiveHls) (xs ys : List Round) (s : LiveRounds) →
-    let f = followed_rounds hls in let mid = state_after f s (accepted_in f s xs) in
+-- what frames leave that are gone over in two parts
+pub both : {S X : Type 0} (f : Told S X) (xs ys : List X) (s : S) → let mid = state_after f s (accepted_in f s xs) in
     state_after f s (accepted_in f s (xs ++ ys)) ≡ state_after f mid (accepted_in f mid ys)
-both hls [] ys s = refl
-both hls (x ∷ xs) ys s = go ((followed_rounds hls).refusal s x) (λ t. both hls xs ys t)
+both f [] ys s = refl
+both f (x ∷ xs) ys s = go (f.refusal s x) (λ t. both f xs ys t)
   where
-    end : LiveRounds → List Round → LiveRounds
-    end t xs = state_after (followed_rounds hls) t xs
-
     go : (r : Option (List ℕ))
-        → ((t : LiveRounds) → let f = followed_rounds hls in let mid = state_after f t (accepted_in f t xs) in
+        → ((t : _) → let mid = state_after f t (accepted_in f t xs) in
         state_after f t (accepted_in f t (xs ++ ys)) ≡ state_after f mid (accepted_in f mid ys))
-        → let f = followed_rounds hls in
-        let mid = state_after f s (unless_refused r (x ∷ accepted_in f (f.after s x) xs) (accepted_in f s xs)) in
+        → let mid = state_after f s (unless_refused r (x ∷ accepted_in f (f.after s x) xs) (accepted_in f s xs)) in
         state_after f s (unless_refused r (x ∷ accepted_in f (f.after s x) (xs ++ ys)) (accepted_in f s (xs ++ ys)))
         ≡ state_after f mid (accepted_in f mid ys)
-    go None others = others ((followed_rounds hls).after s x)
+    go None others = others (f.after s x)
     go (Some why) others = others s
 
 -- ---- over streams
@@ -196,7 +191,7 @@ segments_stay bounded stay job tracks bytes m n old new place number placed was 
     (All-drop (λ (r : Round). length r.bodies ≡ length tracks) m all each)) in
     let parts : left_by job tracks bytes (m + n) ≡ state_after f mid (accepted_in f mid (take n (drop m all))) =
     ap (λ (xs : List Round). state_after f s (accepted_in f s xs)) (take-add m n all)
-    ∙ both (hls_of job tracks) (take m all) (take n (drop m all)) s in
+    ∙ both (followed_rounds (hls_of job tracks)) (take m all) (take n (drop m all)) s in
     stay tracks _ _ old new place number placed
     (record { whole = first.whole; left = sym first.left ∙ was })
     (record {

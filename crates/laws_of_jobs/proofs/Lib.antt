@@ -25,3 +25,7 @@ mod Steps
 mod Timed
 mod TimedRuns
 mod Near
+mod TimedHistory
+mod TimedFollowing
+mod TimedRunsRead
+mod TimedReadings

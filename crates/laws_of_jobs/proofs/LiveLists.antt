@@ -1,7 +1,7 @@
 -- What a live MPD says of its runs means their segments.
 use Rattle.timeline.specs.declared.names.Names.TheVariants as names
-use Rattle.std.proofs.Common.{◌≡◌, ℕ, zero, suc, ◌+◌, ◌-◌, ◌^◌, List, [], ◌∷◌, map, drop, slice_get, All, Some}
-use Rattle.std.proofs.{Common.{refl, sym, ◌∙◌, ap, arith}, lemmas.List.length-map}
+use Rattle.std.proofs.Common.{◌≡◌, ℕ, zero, suc, ◌+◌, ◌-◌, List, [], ◌∷◌, map, drop, slice_get, unwrap_or, All, Some}
+use Rattle.std.proofs.{Common.{refl, sym, ◌∙◌, ap, ap₂, arith}, lemmas.List.length-map}
 use Rattle.exact_time.specs.Time.{in_units}
 use Rattle.url_parts.specs.declared.address.Part.{Part}
 use Rattle.meaning.specs.Meanings.{Segment}
@@ -24,8 +24,8 @@ abbrev content_of : LiveRun → Content
 content_of run = record {
   initialization = run.initialization;
   runs = record {
-    members = map Closed (in_row (10 ^ 9) (first_time run.segments) (durations_in run));
-    ticks = 10 ^ 9;
+    members = map Closed (in_row run.scale (first_time run.segments - unwrap_or run.offset 0) (durations_in run));
+    ticks = run.scale;
     origin = 0;
     offset = 0;
     first_number = 1;
@@ -33,14 +33,14 @@ content_of run = record {
   };
 }
 
-abbrev plain : (run : LiveRun) → IsReadRun run → IsPlainFrom (first_time run.segments) (content_of run)
+abbrev plain : (run : LiveRun) → IsReadRun run → IsPlainFrom (first_time run.segments - unwrap_or run.offset 0) (content_of run)
 plain run read = record {
   parts = map part_of run.segments;
   durations = durations_in run;
   named = refl;
   members = refl;
   paired = length-map run.segments (λ (segment : LiveSegment). segment.duration) ∙ sym (length-map run.segments part_of);
-  positive = omega arith;
+  positive = read.readable.some;
   lasting = read.lasting;
   initialization = read.readable.initialization;
   own = read.readable.parts;
@@ -56,41 +56,43 @@ behind [] (suc k) x later is = absurd (cc)
 behind (y ∷ ys) zero x later is = (let first : y ≡ x = cc in ap Some first, let rest : ys ≡ later = cc in rest)
 behind (y ∷ ys) (suc k) x later is = behind ys k x later is
 
-segments_are : (tl : SegmentTimeline) (parts : List Part) (k n from : ℕ) (segments : List LiveSegment) → tl.names ≡ names.Addresses parts
-    → n ≡ tl.first_number + k → drop k parts ≡ map part_of segments
-    → map (λ (segment : LiveSegment). segment.time) segments ≡ times_from from segments
-    → map (segment_meant tl) (numbered n (in_row (10 ^ 9) from (map (λ (segment : LiveSegment). segment.duration) segments)))
-    ≡ map segment_of segments
-unfolding part_meant
-segments_are tl parts k n from [] named is rest times = refl
-segments_are tl parts k n from (s ∷ segments) named is rest times =
-    let here : n - tl.first_number ≡ k = omega (arith, is) in
-    let at = behind parts k (part_of s) (map part_of segments) rest in
-    let time : s.time ≡ from = cc in
-    let later : map (λ (segment : LiveSegment). segment.time) segments ≡ times_from (from + s.duration) segments = cc in
-    let others = segments_are tl parts (suc k) (n + 1) (from + s.duration) segments named (omega (arith, is)) at.1 later in
-    let own : Segment = record {
-      part = part_of s;
-      start = in_units (10 ^ 9) from;
-      end = in_units (10 ^ 9) (from + s.duration);
-    } in
-    let moved : own ≡ segment_of s = ap (λ t. record {
-      part = part_of s;
-      start = in_units (10 ^ 9) t;
-      end = in_units (10 ^ 9) (t + s.duration);
-    }) (sym time) in
-    rw (named, here, at.0) (ap (λ later. own ∷ later) others ∙ ap (λ first. first ∷ map segment_of segments) moved)
+module _ (run : LiveRun) where
+  segments_are : (tl : SegmentTimeline) (parts : List Part) (k n from at : ℕ) (segments : List LiveSegment)
+      → tl.names ≡ names.Addresses parts → n ≡ tl.first_number + k → drop k parts ≡ map part_of segments
+      → unwrap_or run.offset 0 + from ≡ at → map (λ (segment : LiveSegment). segment.time) segments ≡ times_from at segments
+      → map (segment_meant tl) (numbered n (in_row run.scale from (map (λ (segment : LiveSegment). segment.duration) segments)))
+      ≡ map (segment_of run) segments
+  unfolding part_meant
+  segments_are tl parts k n from at [] named is rest begins times = refl
+  segments_are tl parts k n from at (s ∷ segments) named is rest begins times =
+      let here : n - tl.first_number ≡ k = omega (arith, is) in
+      let there = behind parts k (part_of s) (map part_of segments) rest in
+      let time : s.time ≡ at = cc in
+      let later : map (λ (segment : LiveSegment). segment.time) segments ≡ times_from (at + s.duration) segments = cc in
+      let others = segments_are tl parts (suc k) (n + 1) (from + s.duration) (at + s.duration) segments named (omega (arith, is)) there.1
+      (omega (arith, begins)) later in
+      let first : from ≡ s.time - unwrap_or run.offset 0 = omega (arith, begins, time) in
+      let last : from + s.duration ≡ s.time + s.duration - unwrap_or run.offset 0 = omega (arith, begins, time) in
+      let own : Segment = record {
+        part = part_of s;
+        start = in_units run.scale from;
+        end = in_units run.scale (from + s.duration);
+      } in
+      let moved : own ≡ segment_of run s = ap₂ (λ from to. record {
+        part = part_of s;
+        start = in_units run.scale from;
+        end = in_units run.scale to;
+      }) first last in
+      rw (named, here, there.0) (ap (λ later. own ∷ later) others ∙ ap (λ first. first ∷ map (segment_of run) segments) moved)
 
-entry_is : (c : Content) (n from : ℕ) (segments : List LiveSegment)
-    → map (segment_meant c.runs) (numbered n (in_row (10 ^ 9) from (map (λ (segment : LiveSegment). segment.duration) segments)))
-    ≡ map segment_of segments
-    → entry_by c.initialization c.runs (numbered n (in_row (10 ^ 9) from (map (λ (segment : LiveSegment). segment.duration) segments)))
-    ≡ entry_with c.initialization segments
-entry_is c n from [] same = refl
-entry_is c n from (s ∷ segments) same = ap (λ segments. Some (record {
-  initialization = c.initialization;
-  segments = segments;
-})) same
+  entry_is : (c : Content) (n from : ℕ) (segments : List LiveSegment) → c.initialization ≡ run.initialization
+      → map (segment_meant c.runs) (numbered n (in_row run.scale from (map (λ (segment : LiveSegment). segment.duration) segments)))
+      ≡ map (segment_of run) segments
+      → entry_by c.initialization c.runs (numbered n (in_row run.scale from (map (λ (segment : LiveSegment). segment.duration) segments)))
+      ≡ entry_with run segments
+  entry_is c n from [] initialization same = refl
+  entry_is c n from (s ∷ segments) initialization same =
+      ap₂ (λ part segments. Some (record { initialization = part; segments = segments })) initialization same
 
 -- ---- the law
 
@@ -98,13 +100,15 @@ pub list_means : (form : Form) → TimedContentsAreMeant → (run : LiveRun) →
 list_means form meant run read goes url end d bases =
     let c = content_of run in
     let first = first_time run.segments in
-    let begins : 0 + first ≡ first = omega arith in
-    let same = segments_are c.runs (map part_of run.segments) 0 1 first run.segments refl (omega arith) refl goes.times in
+    let offset = unwrap_or run.offset 0 in
+    let from = first - offset in
+    let begins : offset + from ≡ first = omega (arith, read.begins) in
+    let same = segments_are run c.runs (map part_of run.segments) 0 1 from first run.segments refl (omega arith) refl begins goes.times in
     ap (λ n. entry_of whole_window (content_meant url end d
-    (segments_told form (10 ^ 9) 0 n run.initialization (durations_in run) (map part_of run.segments)))) (sym begins)
-    ∙ meant form c 0 first url end d (plain run read) bases
-    ∙ ap (entry_by c.initialization c.runs) (listed_from first c (plain run read))
-    ∙ entry_is c 1 first run.segments same
+    (segments_told form run.scale offset n run.initialization (durations_in run) (map part_of run.segments)))) (sym begins)
+    ∙ meant form c offset from url end d (plain run read) bases
+    ∙ ap (entry_by c.initialization c.runs) (listed_from from c (plain run read))
+    ∙ entry_is run c 1 from run.segments refl same
 
 pub all_mean : (form : Form) → TimedContentsAreMeant → (periods : List LivePeriod)
     → All (λ (period : LivePeriod). All IsReadRun period.runs) periods → All (λ (period : LivePeriod). All GoesOn period.runs) periods

@@ -1,13 +1,13 @@
 -- The Periods of playlists that are read can be written and read.
-use Rattle.std.proofs.Common.{◌≡◌, ℕ, suc, ◌+◌, ◌<◌, ◌^◌, max, Bool, true, false, leb, List, [], ◌∷◌, map, length, All, Option, Some, None}
+use Rattle.std.proofs.Common.{◌≡◌, ℕ, suc, ◌+◌, ◌<◌, ◌≤◌, ◌^◌, max, unwrap_or, Bool, true, false, leb, List, [], ◌∷◌, map, length, All, Option, Some, None}
 use Rattle.std.proofs.{Common.{Ok, IfOk, IfSome, refl, sym, ◌∙◌, ap, subst, arith}, lemmas.Bool.Decides.nat_tests, lemmas.List.length-map}
 use Rattle.std.proofs.lemmas.List.Elements.{All-head, All-tail, All-nil, All-cons, All-weaker}
 use Rattle.std.specs.List.{AllByRecursion}
 use Rattle.bridge_io.proofs.AndThen.{steps_of}
 use Rattle.url_parts.specs.declared.address.Part.{Part}
-use Rattle.dash_writer.specs.{Live.part_of, declared.live.LivePeriod.LivePeriod, declared.live.LiveRun.LiveRun}
+use Rattle.dash_writer.specs.{Live.{first_time, part_of}, declared.live.LivePeriod.LivePeriod, declared.live.LiveRun.LiveRun}
 use Rattle.dash_writer.specs.declared.live.LiveSegment.{LiveSegment}
-use Rattle.hls_follow.specs.{Groups.{group_at, row_at, row_end}, Periods.{end_of, extent_of, initialization_in, known_in, live_segments}}
+use Rattle.hls_follow.specs.{Groups.{group_at, row_at, row_end}, Periods.{end_of, extent_of, initialization_in, known_in, live_segments, nominal_run}}
 use Rattle.hls_follow.specs.Periods.{period_of, periods_from, run_of, runs_of, within_limit}
 use Rattle.hls_follow.proofs.Listing.{listed_map}
 use Rattle.laws_of_mpds.proofs.ReadPlain.{map_own, range_readable}
@@ -41,26 +41,31 @@ all_last [] all = tt
 all_last (t ∷ group) all =
     ((All-head IsReadSegment t group all).lasting, all_last group (All-tail IsReadSegment t group all))
 
--- a run that can be read, of which each segment lasts
+-- a run that can be read, which begins at its offset or later, and of which each segment lasts
 pub record IsReadRun (run : LiveRun) : Type 0 where
   pub readable : IsReadableRun run
+  pub begins : unwrap_or run.offset 0 ≤ first_time run.segments
   pub lasting : AllByRecursion (λ d. 0 < d) (durations_in run)
 
 run_read : (group : List TimedSegment) (run : LiveRun) → IsReadRow 100_000 group → run_of group ≡ Ok run → IsReadRun run
 run_read [] run read is = absurd (cc)
 run_read (t ∷ group) run read is =
     let x = steps_of (initialization_in t.segment.map) _ run is in
-    let same : record { initialization = x.value; segments = live_segments (t ∷ group) } ≡ run = (let h = x.then in cc) in
+    let same : nominal_run x.value (t ∷ group) ≡ run = (let h = x.then in cc) in
     let first = All-head IsReadSegment t group read.all in
     let own = map_own t.segment.map first.plain.bounded.map first.plain.addresses.initialization in
     subst IsReadRun same (record {
       readable = record {
         initialization = subst (λ (part : Option Part). IfSome part IsOwnPart) (listed_map x.value t.segment.map x.first) own;
         parts = own_files (t ∷ group) read.all;
+        some = omega arith;
+        scale = omega arith;
+        offset = tt;
         durations = short_durations (t ∷ group) read.all;
         first = omega (arith, first.early);
         few = omega (arith, read.few, as_many (t ∷ group));
       };
+      begins = omega arith;
       lasting = all_last (t ∷ group) read.all;
     })
 

@@ -29,7 +29,7 @@ use Rattle.laws_of_jobs.proofs.{Bodies.{IsWhole, all_have}, Followed.all_read, H
 
 -- ---- instants
 
-readable : InstantsAreDenoted → (text : List ℕ) (now : ℤ) → instant_in text ≡ Some now → IsReadable now
+pub readable : InstantsAreDenoted → (text : List ℕ) (now : ℤ) → instant_in text ≡ Some now → IsReadable now
 readable denoted text now is = go (instant_of text) refl is
   where
     go : (r : Result ℤ InstantFault) → instant_of text ≡ r → result_ok r ≡ Some now → IsReadable now
@@ -38,7 +38,7 @@ readable denoted text now is = go (instant_of text) refl is
 
 -- ---- what holds of all rounds holds of the accepted ones
 
-all_accepted : {S X : Type 0} (P : X → Type 0) (f : Followed S X) (s : S) (xs : List X) → All P xs → All P (accepted_in f s xs)
+pub all_accepted : {S X : Type 0} (P : X → Type 0) (f : Followed S X) (s : S) (xs : List X) → All P xs → All P (accepted_in f s xs)
 all_accepted P f s [] all = All-nil P
 all_accepted P f s (x ∷ xs) all =
     let later = All-tail P x xs all in
@@ -51,7 +51,7 @@ all_accepted P f s (x ∷ xs) all =
 
 -- ---- addresses
 
-abbrev OfBytes : List ℕ → Type 0
+abbrev pub OfBytes : List ℕ → Type 0
 OfBytes url = All (λ b. b < 256) url
 
 module _ (addresses : ReadHaveAddresses) where
@@ -73,7 +73,7 @@ module _ (addresses : ReadHaveAddresses) where
       all_more urls bodies a.value more a.then (All-tail OfBytes url urls of_bytes)
       (one_more url body medias a.value a.first (All-head OfBytes url urls of_bytes) all)
 
-  in_round : (urls : List (List ℕ)) (x : Round) → All OfBytes urls
+  pub in_round : (urls : List (List ℕ)) (x : Round) → All OfBytes urls
       → All HaveAddresses (result_unwrap_or (medias_of urls x.bodies) [])
   in_round urls x of_bytes = go (medias_of urls x.bodies) refl
     where

@@ -10,3 +10,5 @@ pub mod RoundRuns
 pub mod Rounds
 pub mod Timed
 pub mod TimedRuns
+pub mod TimedFollowing
+pub mod TimedReadings

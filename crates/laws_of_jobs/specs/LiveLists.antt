@@ -1,8 +1,7 @@
 -- What the segments of the MPD of a run of `follow-hls` mean.
-use Rattle.std.specs.Prelude.{◌≡◌, ℕ, ◌+◌, ◌^◌, List, [], ◌∷◌, map, All, slice_get, Option, Some, None}
+use Rattle.std.specs.Prelude.{◌≡◌, ℕ, ◌+◌, ◌-◌, List, [], ◌∷◌, map, All, slice_get, Option, Some, None, unwrap_or}
 use Rattle.bridge_io.specs.Outside.{Files}
-use Rattle.exact_time.specs.Time.{in_units}
-use Rattle.url_parts.specs.declared.address.Part.{Part}
+use Rattle.exact_time.specs.Time.{Time, in_units}
 use Rattle.meaning.specs.Meanings.{Entry, Segment}
 use Rattle.timeline.specs.declared.entry.End.{End}
 use Rattle.mpd_rules.specs.declared.rows.Description.{Description}
@@ -21,19 +20,23 @@ use Rattle.laws_of_jobs.specs.RoundRuns.{IsFollowingRounds}
 
 -- ---- a list
 
--- a listed segment, relative to its Period's start, in nanoseconds
-abbrev pub segment_of : LiveSegment → Segment
-segment_of s = record { part = part_of s; start = in_units (10 ^ 9) s.time; end = in_units (10 ^ 9) (s.time + s.duration) }
+-- a media time of a run relative to its Period's start
+abbrev pub time_in : LiveRun → ℕ → Time
+time_in run time = in_units run.scale (time - unwrap_or run.offset 0)
 
-abbrev pub entry_with : Part → List LiveSegment → Option Entry
-entry_with initialization [] = None
-entry_with initialization (s ∷ segments) = Some (record { initialization = initialization; segments = map segment_of (s ∷ segments) })
+-- a listed segment, relative to its Period's start
+abbrev pub segment_of : LiveRun → LiveSegment → Segment
+segment_of run s = record { part = part_of s; start = time_in run s.time; end = time_in run (s.time + s.duration) }
+
+abbrev pub entry_with : LiveRun → List LiveSegment → Option Entry
+entry_with run [] = None
+entry_with run (s ∷ segments) = Some (record { initialization = run.initialization; segments = map (segment_of run) (s ∷ segments) })
 
 -- What an MPD in a form says of a run means its segments, each with its file, its time and its duration, at any URL of the MPD and any
 -- end of the Period, without filtering by a time (ISO/IEC 23009-1, 5.3.9). The MPD has no BaseURL.
 abbrev pub ListMeans : Form → LiveRun → Type 0
 ListMeans form run = (url : List ℕ) (end : End) (d : Description) → d.bases ≡ []
-    → entry_of whole_window (content_meant url end d (live_told form run)) ≡ entry_with run.initialization run.segments
+    → entry_of whole_window (content_meant url end d (live_told form run)) ≡ entry_with run run.segments
 
 -- ---- a run
 

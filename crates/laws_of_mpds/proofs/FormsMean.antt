@@ -1,6 +1,6 @@
 -- Both forms of a written MPD mean the same.
 use Rattle.timeline.specs.declared.names.Names.TheVariants as names
-use Rattle.std.proofs.Common.{◌≡◌, ℕ, ◌+◌, ◌^◌, ◌<◌, max, List, [], ◌∷◌, length, map, slice_get, decimal, Option, Some, option_and_then}
+use Rattle.std.proofs.Common.{◌≡◌, ℕ, ◌+◌, ◌<◌, max, List, [], ◌∷◌, length, map, slice_get, decimal, Option, Some, option_and_then, unwrap_or}
 use Rattle.std.proofs.{Common.{refl, sym, ◌∙◌, ap, arith}, lemmas.List.length-map}
 use Rattle.std.specs.{Prelude.ℤ, Option.option_map_or}
 use Rattle.iso_time.specs.Laws.{DurationsAreReadAgain, InstantsAreReadAgain}
@@ -37,8 +37,8 @@ abbrev content_of : LiveRun → Content
 content_of run = record {
   initialization = run.initialization;
   runs = record {
-    members = map Closed (row_at (max 1 (10 ^ 9)) 0 (first_time run.segments) (durations_in run));
-    ticks = 10 ^ 9;
+    members = map Closed (row_at (max 1 run.scale) (unwrap_or run.offset 0) (first_time run.segments) (durations_in run));
+    ticks = run.scale;
     origin = 0;
     offset = 0;
     first_number = 1;
@@ -58,6 +58,7 @@ module _ (templates : TemplatesName) (literals : LiteralsName) (form : Form) (mp
       let p = some_at mpd.periods s in_periods in
       let h = run_of form mpd s p.0 k readable p.1 in_tracks in
       let first = first_time h.run.segments in
+      let offset = unwrap_or h.run.offset 0 in
       let ds = durations_in h.run in
       let parts = map part_of h.run.segments in
       let paired : length ds ≡ length parts = length-map h.run.segments (λ (segment : LiveSegment). segment.duration)
@@ -66,14 +67,14 @@ module _ (templates : TemplatesName) (literals : LiteralsName) (form : Form) (mp
       record {
         segments = live_told form h.run;
         tells = h.told;
-        counted = form_counted form (10 ^ 9) 0 first h.run.initialization ds parts (omega arith);
+        counted = form_counted form h.run.scale offset first h.run.initialization ds parts h.readable.some;
         seen = λ window url end d bases.
             (given_same window (content_of h.run) (content_meant url end d (live_told form h.run)) h.run.initialization
-            (row_at (max 1 (10 ^ 9)) 0 first ds) parts
+            (row_at (max 1 h.run.scale) offset first ds) parts
             (record { initialization = refl; members = refl; files = own_parts (content_of h.run).runs parts refl })
-            (form_given templates literals (10 ^ 9) 0 first h.run.initialization ds parts url end d h.readable.initialization
+            (form_given templates literals h.run.scale offset first h.run.initialization ds parts url end d h.readable.initialization
             h.readable.parts bases form)
-            (length_row_at (max 1 (10 ^ 9)) 0 first ds ∙ paired)
+            (length_row_at (max 1 h.run.scale) offset first ds ∙ paired)
             ∙ sym (ap (option_and_then (λ run. entry_of window (content_of run))) there));
       }
 

@@ -1,5 +1,5 @@
 -- The text of a live MPD is read as it was written.
-use Rattle.std.proofs.Common.{◌≡◌, ℕ, zero, suc, ◌+◌, ◌^◌, ◌<◌, Bool, true, false, not, List, [], ◌∷◌, ◌++◌, length, map, slice_get}
+use Rattle.std.proofs.Common.{◌≡◌, ℕ, zero, suc, ◌+◌, ◌<◌, Bool, true, false, not, List, [], ◌∷◌, ◌++◌, length, map, slice_get}
 use Rattle.std.proofs.Common.{codes, decimal, All, Some, None, option_map, option_and_then, if◌then◌else◌, refl, sym, ◌∙◌, ap, subst}
 use Rattle.std.proofs.{Common.arith, lemmas.List.length-map, lemmas.Option.{get_or_from_slice_get, slice_get_within}}
 use Rattle.std.specs.{Prelude.ℤ, List.AllByRecursion, Result.result_ok}
@@ -64,16 +64,16 @@ has_runs form mpd section period readable at i from below =
     let few : IsShort (length (durations_in h.run)) =
     subst IsShort (sym (length-map h.run.segments (λ (segment : LiveSegment). segment.duration))) h.readable.few in
     record {
-      ticks = 10 ^ 9;
-      offset = None;
+      ticks = h.run.scale;
+      offset = h.run.offset;
       first = first_time h.run.segments;
       initialization = h.run.initialization;
       durations = durations_in h.run;
       parts = map part_of h.run.segments;
       is = h.listed;
       readable = record {
-        ticks = omega arith;
-        offset = tt;
+        ticks = h.readable.scale;
+        offset = h.readable.offset;
         first = h.readable.first;
         initialization = h.readable.initialization.readable;
         durations = h.readable.durations;
@@ -89,7 +89,7 @@ fine_runs : (form : Form) (mpd : LiveMpd) (section : ℕ) (period : LivePeriod) 
 fine_runs form mpd section period readable at i from below =
     let h = run_of form mpd section period i readable at (omega (arith, below)) in
     subst (AllByRecursion (IsFine 2)) (sym h.listed) (
-      fine_segments form (10 ^ 9) None (first_time h.run.segments) h.run.initialization (durations_in h.run) (map part_of h.run.segments)
+      fine_segments form h.run.scale h.run.offset (first_time h.run.segments) h.run.initialization (durations_in h.run) (map part_of h.run.segments)
           h.readable.initialization h.readable.parts,
       tt,
     )

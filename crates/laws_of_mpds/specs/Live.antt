@@ -1,6 +1,6 @@
 -- What the text of a live MPD is read as.
 use Rattle.std.specs.Prelude.{◌≡◌, ℕ, ◌^◌, ◌<◌, ℤ, not, List, length, map, slice_get, decimal, All, Option, Some, None, option_map}
-use Rattle.std.specs.{Prelude.{option_and_then, if◌then◌else◌}, List.AllByRecursion, Result.result_ok}
+use Rattle.std.specs.{Prelude.{option_and_then, unwrap_or, IfSome, if◌then◌else◌}, List.AllByRecursion, Result.result_ok}
 use Rattle.iso_time.specs.{Instant.IsReadable as IsReadableInstant, Laws.floor_millis}
 use Rattle.mpd_tree.specs.Meaning.{reading_of}
 use Rattle.mpd_levels.specs.Segments.{Segments}
@@ -15,10 +15,10 @@ use Rattle.laws_of_mpds.specs.{Contents.IsOwnPart, Shown.{Shown, shown_of, shown
 abbrev pub durations_in : LiveRun → List ℕ
 durations_in run = map (λ (segment : LiveSegment). segment.duration) run.segments
 
--- The segments of a track in a Period, in nanoseconds, with media time 0 at the Period's start: the time of the first one, then
+-- The segments of a track in a Period, in the ticks of its run, with its media time at the Period's start: the time of the first one, then
 -- each one's duration and file (ISO/IEC 23009-1, 5.3.9.3, 5.3.9.4 and 5.3.9.6).
 abbrev pub live_told : Form → LiveRun → Segments
-live_told form run = segments_told form (10 ^ 9) 0 (first_time run.segments) run.initialization (durations_in run)
+live_told form run = segments_told form run.scale (unwrap_or run.offset 0) (first_time run.segments) run.initialization (durations_in run)
     (map part_of run.segments)
 
 abbrev pub told_in : Form → LiveMpd → (section place : ℕ) → Option Segments
@@ -45,6 +45,9 @@ live_shown form mpd = record {
 pub record IsReadableRun (run : LiveRun) : Type 0 where
   pub initialization : IsOwnPart run.initialization
   pub parts : AllByRecursion IsOwnPart (map part_of run.segments)
+  pub some : 0 < run.scale
+  pub scale : IsShort run.scale
+  pub offset : IfSome run.offset IsShort
   pub durations : AllByRecursion IsShort (durations_in run)
   pub first : IsShort (first_time run.segments)
   pub few : IsShort (length run.segments)

@@ -5,11 +5,11 @@ use Rattle.bridge_core.specs.Courses.{outcome_of_job}
 use Rattle.bridge_core.proofs.{Blamed.{command_blamed, not_followed}, Worked.command_worked}
 
 pub run_owned-requires-clause-other : goal.run_owned-requires-clause-other
-run_owned-requires-clause-other g c = not_followed c.args.job c.in_default.not-Follow c.in_default.not-FollowHls
+run_owned-requires-clause-other g c = not_followed c.args.job c.in_default.not-Follow c.in_default.not-FollowHls c.in_default.not-FollowHlsTimes
 
 pub returns-in_default : goal.returns-in_default
 returns-in_default g c =
-    let other = not_followed c.args.job c.in_default.not-Follow c.in_default.not-FollowHls in
+    let other = not_followed c.args.job c.in_default.not-Follow c.in_default.not-FollowHls c.in_default.not-FollowHlsTimes in
     let files = g.F.Store.files c.args.store.now in let input = g.I.Source.remaining c.args.input.now in
     let ends = c.run_owned.ensures.ends in
     record {

@@ -1,19 +1,20 @@
 use Rattle.std.proofs.Common.{Err, ap, refl, arith}
 use Rattle.bridge_courses.specs.Executions.{NeverFalls}
 use Rattle.bridge_courses.proofs.Stepping.{falls_then}
-use Rattle.bridge_steps.proofs.Grown.{none_grown}
-use Rattle.bridge_reach.proofs.Working.{either_later, halt_caused, halt_worked, read_worked}
+use Rattle.bridge_steps.proofs.{Caused.{either, either_later}, Grown.none_grown}
+use Rattle.bridge_reach.specs.Rounds.{rounds_of}
+use Rattle.bridge_reach.proofs.Working.{halt_caused, halt_worked, read_worked, rounds_led}
 use Rattle.bridge_reach.proofs.follow_hls.follow_at.Goals as goal
 
 pub returns-in-Ok-clause-runs : goal.returns-in-Ok-clause-runs
 returns-in-Ok-clause-runs g c =
-    let read = c.in-Ok.ensures in let ends = c.follow_master.ensures.runs in
+    let read = c.in-Ok.ensures in let ends = c.follow_master.ensures.runs in let input = g.I.Source.remaining c.args.input.now in
     let falls : NeverFalls _ _ =
     record { input = omega arith; reads = read.cause.never_falls; writes = omega (arith, read.writes); report = omega arith } in
     record {
-      work = read_worked c.args.job.now (g.F.Store.files c.args.store.now) (g.I.Source.remaining c.args.input.now) c.args.place.now
-          c.follow_master.result c.in-Ok.master _ _ _ read.read (record { files = read.files; report = refl; made = refl }) falls
-          ends.work;
+      work = read_worked (λ all. rounds_of c.args.job.now input) (rounds_led c.args.job.now input) (g.F.Store.files c.args.store.now)
+          c.args.place.now c.follow_master.result c.in-Ok.master _ _ _ read.read (record { files = read.files; report = refl; made = refl })
+          falls (λ all is. ends.work);
       never_falls = falls_then _ _ _ falls ends.never_falls;
       told = ends.told;
     }
@@ -22,16 +23,16 @@ pub returns-in-Ok-clause-caused : goal.returns-in-Ok-clause-caused
 returns-in-Ok-clause-caused g c = let read = c.in-Ok.ensures in
     either_later c.follow_master.result _ _ _
     (record { input = omega arith; reads = read.cause.never_falls; writes = omega (arith, read.writes); report = omega arith })
-    c.follow_master.ensures.caused
+    (either c.follow_master.result _ _ c.follow_master.ensures.caused)
 
 pub returns-in-Err-clause-runs : goal.returns-in-Err-clause-runs
 returns-in-Err-clause-runs g c =
-    let read = c.in-Err.ensures in
+    let read = c.in-Err.ensures in let input = g.I.Source.remaining c.args.input.now in
     let falls : NeverFalls _ _ =
     record { input = omega arith; reads = read.cause.never_falls; writes = omega (arith, read.writes); report = omega arith } in
     record {
-      work = halt_worked c.args.job.now (g.F.Store.files c.args.store.now) (g.I.Source.remaining c.args.input.now) c.args.place.now
-          c.halted.result _ _ (record { files = read.files; report = refl; made = refl }) falls
+      work = halt_worked (λ all. rounds_of c.args.job.now input) (rounds_led c.args.job.now input) (g.F.Store.files c.args.store.now)
+          c.args.place.now c.halted.result _ _ (record { files = read.files; report = refl; made = refl }) falls
           c.in-Err.halt c.halted.ensures (λ e. read.cause.rose (ap Err e)) read.read;
       never_falls = falls;
       told = none_grown _ _ refl;

@@ -1,6 +1,6 @@
 use Rattle.hls_follow.proofs.periods.periods_of.Given as goal
 use Rattle.std.proofs.Common.{◌≡◌, ◌<◌, ◌^◌, All, drop, length}
-use Rattle.hls_follow.specs.{Faults.behind, Periods.{last_end, periods_from}}
+use Rattle.hls_follow.specs.{Faults.behind, Kept.HasScales, Periods.{last_end, periods_from}}
 
 abbrev pub invariant-loop-number : goal.invariant-loop-number
 invariant-loop-number l = record {
@@ -9,4 +9,5 @@ invariant-loop-number l = record {
   told : behind l.periods (periods_from l.known l.tracks l.former l.place (drop l.number-index l.sections))
       ≡ periods_from l.known l.tracks (last_end l.known) 0 l.sections;
   filled : All (λ p. length p.runs ≡ length l.tracks) l.periods;
+  scaled : All HasScales l.periods;
 }

@@ -1,27 +1,14 @@
-use Rattle.bridge_report.specs.Refusals.{refused_in}
-use Rattle.bridge_reach.proofs.Rounding.{accepted_by, counted_by, kept_by, refused_by, unread}
+use Rattle.std.proofs.Common.{◌≡◌, Some}
+use Rattle.bridge_report.specs.FrameStops.{frame_text}
+use Rattle.bridge_steps.proofs.Stopped.{stopped_so}
+use Rattle.bridge_reach.specs.Rounds.{followed_rounds}
 use Rattle.bridge_reach.proofs.rounds.LiveHlsFollow.accept.Goals as goal
 
 pub returns-in-Ok-clause-accepted : goal.returns-in-Ok-clause-accepted
-returns-in-Ok-clause-accepted g c =
-    accepted_by c.args.self.now c.args.live.now c.take.new.live c.args.round.now c.in-Ok.medias c.in-Ok.ensures.medias
-    c.take.result _ c.take.ensures.next c.take.ensures.appended
-
-pub returns-in-Ok-clause-refused : goal.returns-in-Ok-clause-refused
-returns-in-Ok-clause-refused g c =
-    refused_by c.args.self.now c.args.live.now c.take.new.live c.args.round.now c.in-Ok.medias c.in-Ok.ensures.medias
-    c.take.result c.take.ensures.next
-
-pub returns-in-Ok-clause-counts : goal.returns-in-Ok-clause-counts
-returns-in-Ok-clause-counts g c =
-    counted_by c.args.self.now c.args.live.now c.take.new.live c.args.round.now c.in-Ok.medias c.in-Ok.ensures.medias
-    c.take.result c.take.ensures.next
-
-pub returns-in-Ok-clause-kept : goal.returns-in-Ok-clause-kept
-returns-in-Ok-clause-kept g c =
-    kept_by c.args.self.now c.args.live.now c.take.new.live c.args.round.now c.in-Ok.medias c.in-Ok.ensures.medias
-    c.take.result c.take.ensures.next c.take.ensures.same c.requires.kept
+returns-in-Ok-clause-accepted g c = λ all is. c.in-Ok.ensures.accepted _
 
 pub returns-in-Err-clause-refused : goal.returns-in-Err-clause-refused
-returns-in-Err-clause-refused g c =
-    unread c.args.self.now c.args.live.now c.args.round.now (refused_in c.in-Err.stop) c.in-Err.ensures.medias
+returns-in-Err-clause-refused g c = λ all is.
+    stopped_so c.in-Err.stop (frame_text c.of.result)
+    (λ text. (followed_rounds c.args.self.now).refusal c.args.live.now c.args.round.now ≡ Some text) c.of.ensures.told
+    c.in-Err.ensures.refused

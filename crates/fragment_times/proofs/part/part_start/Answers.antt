@@ -1,4 +1,4 @@
-use Rattle.fragment_times.proofs.part.start_at.Goals as goal
+use Rattle.fragment_times.proofs.part.part_start.Goals as goal
 use Rattle.std.proofs.Common.{◌≡◌, ℕ, List, codes, ap, sym, ◌∙◌}
 use Rattle.fragment_times.specs.{Parts.{start_at, told_of}, Told.{start_by, decode_time_of}}
 use Rattle.fragment_times.proofs.Reached.{as_whole, file_told, part_is, unread}

@@ -1,4 +1,4 @@
-use Rattle.fragment_times.proofs.part.scale_at.Goals as goal
+use Rattle.fragment_times.proofs.part.part_scale.Goals as goal
 use Rattle.std.proofs.Common.{◌≡◌, ℕ, List, codes, ap, sym, ◌∙◌}
 use Rattle.fragment_times.specs.{Parts.{scale_at, told_of}, Told.{scale_by, media_scale_of}}
 use Rattle.fragment_times.proofs.Reached.{as_whole, file_told, part_is, unread}
