@@ -4,7 +4,8 @@
 # within 5 seconds and 600 MB. Then MPDs with long texts of which an address keeps little, within 2 seconds and 200 MB, and ones whose names
 # are longer than any address, within 2 seconds and 100 MB. Then `bridge follow` and `bridge follow-hls` of streams, and
 # `bridge follow-hls-times` of media files, as a stranger may make them: each frame and each round within 5 seconds, and the run within
-# 1,200 MB. Then `bridge_publish` of two playlists of as many segments as fit that share none: each publication within 5 seconds and 300 MB.
+# 1,200 MB. More than some 3,000 of the segments with boxes of 8 bytes before their moof aren't answered in that time: docs/PERFORMANCE.md
+# has how long they take. Then `bridge_publish` of two playlists of as many segments as fit that share none: each publication within 5 seconds and 300 MB.
 #
 # It wants `rt` and python3, and proves the programs first where they aren't kept. BRIDGE and PUBLISH name others.
 set -euo pipefail
