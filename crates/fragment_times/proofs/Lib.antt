@@ -5,6 +5,7 @@ pub mod Lengths
 pub mod Listed
 pub mod Nearest
 pub mod Origins
+pub mod Passed
 pub mod PeriodStarts
 pub mod Periods
 pub mod Reached

@@ -1,12 +1,13 @@
 -- The bytes of init segments and segments in files, and the times in them.
-use Rattle.std.specs.Prelude.{ℕ, ◌+◌, ◌-◌, ◌^◌, ◌<◌, min, List, Option, Some, None, Result, Ok, Err, take, drop}
+use Rattle.std.specs.Prelude.{◌≡◌, ℕ, ◌+◌, ◌-◌, ◌^◌, min, List, Option, Some, None, Result, Ok, Err, take, drop}
 use Rattle.bridge_io.specs.{Answer.{and_then, told_as}, Outside.Files}
 use Rattle.box_reader.specs.{Boxes.{Found, Left}, Parts.part_of, declared.part.PartFault.PartFault}
 use Rattle.url_parts.specs.{Addresses.local_name_of, declared.address.Part.Part, declared.range.Range.Range}
 use Rattle.layer_faults.specs.declared.times.FileFault.{FileFault}
 use Rattle.layer_faults.specs.declared.times.FileFault.TheVariants.{Absent}
 use Rattle.fragment_times.specs.{declared.fault.TimesFault.TimesFault, declared.fault.TimesFault.TheVariants.{File, OutsideBase}}
-use Rattle.fragment_times.specs.{declared.part.Reach.Reach, Told.{decode_time_of, first_box, media_scale_of}}
+use Rattle.fragment_times.specs.{declared.part.Front.Front, declared.part.Reach.Reach}
+use Rattle.fragment_times.specs.Told.{decode_time_of, end_of, first_box, media_scale_of}
 
 -- ---- which bytes
 
@@ -49,6 +50,20 @@ scale_at = told_at media_scale_of
 unfoldable pub start_at : (folder : List ℕ) → Files → Part → Result ℕ TimesFault
 start_at = told_at decode_time_of
 
+-- ---- where the box ends that has them
+
+abbrev pub end_in : (kind : List ℕ) → Option Range → (file : Option (List ℕ)) → ℕ
+end_in kind range None = 0
+end_in kind range (Some file) = end_of (first_byte range) (first_box kind (bytes_of range file))
+
+abbrev pub end_named : (kind : List ℕ) → Files → Option Range → Result (List ℕ) TimesFault → ℕ
+end_named kind files range (Ok file) = end_in kind range (files file)
+end_named kind files range (Err _) = 0
+
+-- how many bytes of a part there are up to the end of its first box of a type; 0 without one
+unfoldable pub end_at : (kind : List ℕ) → (folder : List ℕ) → Files → Part → ℕ
+end_at kind folder files part = end_named kind files part.range (file_of folder part)
+
 -- ---- the box that has them
 
 -- the first box of a type, in bytes the first of which is at an offset
@@ -63,6 +78,19 @@ box_by kind at (Err fault) = Err fault
 abbrev pub box_of : (kind : List ℕ) → Reach → (file : Option (List ℕ)) → Result (Result Found FileFault) PartFault
 box_of kind reach file = box_by kind reach.first (part_of reach.first reach.limit file)
 
-abbrev pub EndsWithin : (end : ℕ) → Result Found FileFault → Type 0
-EndsWithin end (Ok found) = found.head.at + found.head.size < end
-EndsWithin end (Err fault) = ⊥
+-- in the bytes from an index on
+abbrev pub box_past : (kind : List ℕ) → (first from : ℕ) → List ℕ → Result Found FileFault
+box_past kind first from bytes = box_from kind (first + from) (drop from bytes)
+
+abbrev pub box_in : (kind : List ℕ) → (first : ℕ) → Front → Result Found FileFault
+box_in kind first front = box_past kind first front.from front.bytes
+
+-- the boxes before an index make no difference, whatever follows these bytes
+abbrev pub IsPassed : (kind : List ℕ) → (first from : ℕ) → (front : List ℕ) → Type 0
+IsPassed kind first from front =
+    (n : ℕ) (whole : List ℕ) → take n whole ≡ front → box_from kind first whole ≡ box_past kind first from whole
+
+-- and what follows them makes none, since the first box of the type ends within them
+abbrev pub IsFound : (kind : List ℕ) → (first from : ℕ) → (front : List ℕ) → Type 0
+IsFound kind first from front =
+    (n : ℕ) (whole : List ℕ) → take n whole ≡ front → box_past kind first from whole ≡ box_past kind first from front

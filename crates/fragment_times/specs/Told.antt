@@ -1,13 +1,13 @@
 -- The times in media files: ISO/IEC 14496-12, 8.4.2 (`mdhd`) and 8.8.12 (`tfdt`).
 use Rattle.box_reader.specs.declared.head.BoxFault.TheVariants as box
-use Rattle.std.specs.Prelude.{ℕ, ◌+◌, ◌%◌, ◌^◌, ◌==◌, nat_lt, List, codes, length, get_or, count_by, if◌then◌else◌, Option, Some, None, Result}
-use Rattle.std.specs.Prelude.{Ok, Err}
+use Rattle.std.specs.Prelude.{ℕ, ◌+◌, ◌-◌, ◌%◌, ◌^◌, ◌==◌, nat_lt, List, codes, length, get_or, count_by, if◌then◌else◌, Option, Some, None}
+use Rattle.std.specs.Prelude.{Result, Ok, Err}
 use Rattle.bridge_io.specs.Answer.{and_then}
 use Rattle.box_reader.specs.{Boxes.{Found, Left, Walk, boxes_of, first_in, is_of}, Numbers.{u32_at, u64_at}}
 use Rattle.box_reader.specs.declared.head.BoxFault.{BoxFault}
 use Rattle.layer_faults.specs.declared.times.FileFault.{FileFault}
 use Rattle.layer_faults.specs.declared.times.FileFault.TheVariants.{Boxes, Missing, Tracks, Scale}
-use Rattle.fragment_times.specs.Refusals.{sooner}
+use Rattle.fragment_times.specs.{Refusals.sooner, declared.told.Stated.Stated}
 use Rattle.layer_faults.specs.declared.times.FileFault.TheVariants.{Range}
 
 -- ---- boxes inside boxes
@@ -27,6 +27,16 @@ inside found = record { at = found.head.at + found.head.header; bytes = found.bo
 
 abbrev pub child_of : (kind : List ℕ) → Found → Result Found FileFault
 child_of kind found = first_box kind (inside found)
+
+-- how many bytes there are from an offset up to the end of a box
+abbrev pub end_of : (first : ℕ) → Result Found FileFault → ℕ
+end_of first (Ok found) = found.head.at + found.head.size - first
+end_of first (Err fault) = 0
+
+-- what is stated, without the end of its box
+abbrev pub value_of : Result (Stated ℕ) FileFault → Result ℕ FileFault
+value_of (Ok told) = Ok told.value
+value_of (Err fault) = Err fault
 
 -- ---- a number after version and flags
 

@@ -27,3 +27,4 @@ pub use origin::Origin;
 pub use part::{part_scale, part_start};
 pub use period_start::PeriodStart;
 pub use times::{SegmentTimes, StartList, TimesList, fragment_times};
+pub use told::Stated;

@@ -49,8 +49,8 @@ pub type TimesList = Sequence<SegmentTimes>;
 /// init segment (ISO/IEC 14496-12, 8.4.2), and the decode time of each segment's first sample (8.8.12). `folder` is the URL of
 /// the store's folder.
 ///
-/// At most the first 1,048,576 bytes of a whole file are read, and of a byte range at most as many; where the first 65,536 of
-/// these contain the whole box that has the time, no others. The store's files stay as they are.
+/// At most the first 1,048,576 bytes of a whole file are read, and of a byte range at most as many: 8,192, and then each time as
+/// many as were read before, until the box that has the time ends within them. The store's files stay as they are.
 ///
 /// The parts are read by section, then by track, the init segment first and then the segments in order. `OutsideBase` comes
 /// before the faults of a file, which come in the order of [`FileFault`](crate::FileFault). `Fault` comes only where the
@@ -142,7 +142,7 @@ impl Reading<'_> {
         ensures writes { F.write_faults store.new ≡ F.write_faults store.old }
     {
         let initialization = self.presentation.initialization(section, track);
-        let scale = part_scale(alloc, self.folder, initialization, store)?;
+        let scale = part_scale(alloc, self.folder, initialization, store)?.value;
         let listing = listing_at(self.presentation, section, track);
         let starts = self.starts(alloc, listing, store, steps)?;
         Ok(SegmentTimes { scale, starts })
@@ -166,7 +166,7 @@ impl Reading<'_> {
         let mut starts = StartList::new(alloc);
         while let Some(segment) = next_segment(alloc, &mut listing, steps)? {
             let part = segment.into_part();
-            starts.push(part_start(alloc, self.folder, &part, store)?)?;
+            starts.push(part_start(alloc, self.folder, &part, store)?.value)?;
         }
         Ok(starts)
     }

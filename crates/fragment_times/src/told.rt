@@ -1,5 +1,5 @@
 // Reading the boxes of a part.
-ghost use Rattle.std.specs.Prelude.{◌≡◌, ◌≤◌, ◌<◌, ◌+◌, ◌^◌, length, IfOk};
+ghost use Rattle.std.specs.Prelude.{◌≡◌, ◌≤◌, ◌<◌, ◌+◌, ◌-◌, ◌^◌, codes, length, IfOk};
 ghost use Rattle.box_reader.specs.Boxes.{boxes_of};
 ghost use Rattle.fragment_times.specs.Told as spec;
 
@@ -7,39 +7,62 @@ use crate::FileFault;
 use crate::fault::sooner;
 use box_reader::{BoxFault, Boxes, FileBox, OfType, u32_at, u64_at};
 
-/// The timescale of an init segment for the media of its one track, by these bytes, the first of which is at offset `first`
-/// of the file (ISO/IEC 14496-12, 8.4.2).
+/// What a box of a part of a file states.
+#[derive(Clone, Copy)]
+pub struct Stated<X> {
+    /// The number.
+    pub value: X,
+    /// How many bytes the part has up to the end of the box that contains it: a `moov` or a `moof`.
+    pub end: u64,
+}
+
+/// The timescale of an init segment for the media of its one track, by these bytes, the first of which is at offset `at` of the file
+/// (ISO/IEC 14496-12, 8.4.2). The part begins at offset `first`.
 ///
 /// Requires that the bytes lie in the first 2^63 of a file.
 #[tactic(auto, unfolding(crate::specs::Told::media_scale_of))]
-pub(crate) fn media_scale(bytes: &[u8], first: u64) -> Result<u32, FileFault>
-    requires { first + length bytes.now ≤ 2 ^ 63 }
-    ensures scale { result ≡ spec.media_scale_of (record { at = first; bytes = bytes.now }) }
-    ensures positive { IfOk result (λ scale. 0 < scale) }
+pub(crate) fn media_scale(bytes: &[u8], at: u64, first: u64) -> Result<Stated<u32>, FileFault>
+    requires { at + length bytes.now ≤ 2 ^ 63 }
+    ensures scale { spec.value_of result ≡ spec.media_scale_of (record { at = at; bytes = bytes.now }) }
+    ensures end { IfOk result (λ told.
+        told.end ≡ spec.end_of first (spec.first_box (codes "moov") (record { at = at; bytes = bytes.now }))) }
+    ensures positive { IfOk result (λ told. 0 < told.value) }
 {
-    let moov = first_box(Boxes::over(bytes, first), *b"moov")?;
-    let scale = alone(&moov, *b"trak", track_scale(&moov))?;
-    if scale == 0 {
+    let moov = first_box(Boxes::over(bytes, at), *b"moov")?;
+    let value = alone(&moov, *b"trak", track_scale(&moov))?;
+    if value == 0 {
         return Err(FileFault::Scale);
     }
-    Ok(scale)
+    let end = end_of(&moov, first);
+    Ok(Stated { value, end })
 }
 
-/// The decode time of a segment's first sample, by these bytes, the first of which is at offset `first` of the file
-/// (8.8.12).
+/// The decode time of a segment's first sample, by these bytes, the first of which is at offset `at` of the file (8.8.12). The part
+/// begins at offset `first`.
 ///
 /// Requires that the bytes lie in the first 2^63 of a file.
 #[tactic(auto, unfolding(crate::specs::Told::decode_time_of))]
-pub(crate) fn decode_time(bytes: &[u8], first: u64) -> Result<u64, FileFault>
-    requires { first + length bytes.now ≤ 2 ^ 63 }
-    ensures { result ≡ spec.decode_time_of (record { at = first; bytes = bytes.now }) }
+pub(crate) fn decode_time(bytes: &[u8], at: u64, first: u64) -> Result<Stated<u64>, FileFault>
+    requires { at + length bytes.now ≤ 2 ^ 63 }
+    ensures start { spec.value_of result ≡ spec.decode_time_of (record { at = at; bytes = bytes.now }) }
+    ensures end { IfOk result (λ told.
+        told.end ≡ spec.end_of first (spec.first_box (codes "moof") (record { at = at; bytes = bytes.now }))) }
 {
-    let moof = first_box(Boxes::over(bytes, first), *b"moof")?;
-    let start = alone(&moof, *b"traf", track_start(&moof))?;
-    if start >= 1 << 63 {
+    let moof = first_box(Boxes::over(bytes, at), *b"moof")?;
+    let value = alone(&moof, *b"traf", track_start(&moof))?;
+    if value >= 1 << 63 {
         return Err(FileFault::Range);
     }
-    Ok(start)
+    let end = end_of(&moof, first);
+    Ok(Stated { value, end })
+}
+
+/// How many bytes there are from an offset of a file up to the end of a box after it.
+fn end_of(found: &FileBox<'_>, first: u64) -> u64
+    ensures { result ≡ found.now.head.at + found.now.head.size - first }
+{
+    let head = found.head();
+    (head.at + head.size).saturating_sub(first)
 }
 
 fn track_scale(moov: &FileBox<'_>) -> Result<u32, FileFault>
@@ -91,7 +114,7 @@ fn fault_among(found: &FileBox<'_>, kind: [u8; 4]) -> Option<FileFault>
 }
 
 /// The first box of a type among some.
-pub(crate) fn first_box<'a>(boxes: Boxes<'a>, kind: [u8; 4]) -> Result<FileBox<'a>, FileFault>
+fn first_box<'a>(boxes: Boxes<'a>, kind: [u8; 4]) -> Result<FileBox<'a>, FileFault>
     ensures { result ≡ spec.first_box kind boxes.entry }
 {
     match boxes.find(&OfType(kind)) {

@@ -1,5 +1,6 @@
 pub mod Bounded
 pub mod Telling
+pub mod Readings
 pub mod Snapshots
 pub mod Spotted
 pub mod Placing

@@ -8,11 +8,12 @@ use Rattle.dash_writer.specs.{declared.live.LivePeriod.LivePeriod, declared.time
 use Rattle.fragment_times.specs.declared.times.SegmentTimes.{SegmentTimes}
 use Rattle.layer_faults.specs.declared.live.LiveFault.{LiveFault}
 use Rattle.hls_follow.specs.{declared.state.Followed.Followed, Kept.{flags_of, formers_of, periods_of}, Maps.judged_maps_of_all}
-use Rattle.hls_follow.specs.{OwnTimes.{of_live, times_of}, Rounds.{kept_in, mpd_of, mpd_or_fault, start_of}}
+use Rattle.hls_follow.specs.{OwnTimes.{of_live, times_of}, Readings.read_times, Rounds.{kept_in, mpd_of, mpd_or_fault, start_of}}
 use Rattle.hls_follow.specs.Rules.{common_sections, judged_all, judged_at, judged_count, judged_reload, judged_section, judged_updates}
 use Rattle.hls_follow.specs.{Ticks.runs_of, TimedHistories.{Round, timed_by}}
 use Rattle.hls_follow.specs.TimedRounds.{judged_tracks, listed_by, placed_of, snapshot_with, timed_by as timed_of_all, timed_of}
 use Rattle.hls_follow.specs.TimedRounds.{timed_tracks}
+use Rattle.hls_follow.proofs.Readings.{read_is}
 
 live_ok : {X : Type 0} (r : Result X LiveFault) (x : X) → of_live r ≡ Ok x → r ≡ Ok x
 live_ok (Ok y) x is = (let same : y ≡ x = cc in ap Ok same)
@@ -64,7 +65,7 @@ placed_parts folder former all round sections new judged is =
     let kept = kept_in former all in
     let flags = flags_of former all in
     let s = snapshot_with former kept sections folder in
-    let a = steps_of (times_of s round.files) _ new is in
+    let a = steps_of (read_times s round.files) _ new is in
     let b = steps_of (runs_of s a.value) _ new a.then in
     let c = steps_of (of_live (periods.periods_of s b.value)) _ new b.then in
     let d = steps_of (of_live (mpd_or_fault former round.now (listed_by c.value kept) c.value kept)) _ new c.then in
@@ -82,7 +83,7 @@ placed_parts folder former all round sections new judged is =
       start = e.value;
       are = refl;
       judged = judged;
-      read = a.first;
+      read = read_is s round.files a.value a.first;
       ticked = b.first;
       periods = listed;
       starts = e.first;

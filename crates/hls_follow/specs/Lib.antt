@@ -7,6 +7,7 @@ pub mod Periods
 pub mod Rounds
 pub mod Stretches
 pub mod OwnTimes
+pub mod Readings
 pub mod Maps
 pub mod Ticks
 pub mod TimedPeriods

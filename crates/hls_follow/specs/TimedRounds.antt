@@ -10,7 +10,7 @@ use Rattle.fragment_times.specs.declared.times.SegmentTimes.{SegmentTimes}
 use Rattle.layer_faults.specs.declared.live.LiveFault.{LiveFault}
 use Rattle.hls_follow.specs.{declared.state.Followed.Followed, declared.state.FollowedTrack.FollowedTrack}
 use Rattle.hls_follow.specs.{declared.timed_fault.TimedFault.TimedFault, Kept.{flags_of, formers_of, periods_of}, Maps.judged_maps_of_all}
-use Rattle.hls_follow.specs.{OwnTimes.{Snapshot, of_live, times_of as read_times}, Periods.last_end}
+use Rattle.hls_follow.specs.{OwnTimes.{Snapshot, of_live}, Periods.last_end, Readings.read_times}
 use Rattle.hls_follow.specs.Rules.{judged_at, judged_count, judged_updates}
 use Rattle.hls_follow.specs.{Rounds.{Following, followed_track, kept_in, mpd_or_fault, target_of}, Stretches.stretches_of_all}
 use Rattle.hls_follow.specs.{Ticks.runs_of, TimedPeriods.periods_of as timed_periods}

@@ -98,8 +98,9 @@ impl Follow {
     /// Any error leaves the state as it was. Those of the playlists come in the order of [`LiveFault`], where `MapChanged` comes also
     /// after `ZeroDuration` of a track, where a section has another map than in the last accepted snapshot, and `Limit` only for too many
     /// sections or segments. Then come those of the media files, by section, then by track, the init segment first and then the segments
-    /// in order, with those of a single file before those of times that don't follow each other; then `Limit` of times. `Fault` comes
-    /// only where the store's count of failed reads rose.
+    /// in order, with those of a single file before those of times that don't follow each other; then `Limit` of times. After the errors
+    /// of a single file `Limit` comes at the one with which more than 536,870,912 bytes of all files together come, up to the ends of the
+    /// `moov` and `moof` that contain the timescales and times. `Fault` comes only where the store's count of failed reads rose.
     ///
     /// Requires that the playlists are bounded as those that were read. Each snapshot of a presentation is accepted by the same one of
     /// both calls.

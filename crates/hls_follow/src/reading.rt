@@ -6,7 +6,8 @@ ghost use Rattle.bridge_io.specs.Fault.{HasCause};
 ghost use Rattle.fragment_times.specs.Times.{IsScaled};
 ghost use Rattle.hls_follow.specs.Faults.{told};
 ghost use Rattle.hls_follow.specs.Kept.{HasScale, HasScales};
-ghost use Rattle.hls_follow.specs.OwnTimes as spec;
+ghost use Rattle.hls_follow.specs.OwnTimes.{map_of, part_of, snapshot_of, timed_told, unread};
+ghost use Rattle.hls_follow.specs.Readings as spec;
 ghost use Rattle.hls_follow.specs.Stretches.{stretch_of};
 
 use crate::snapshot::{Snapshot, period_in, run_at};
@@ -14,15 +15,39 @@ use crate::stretches::Stretch;
 use crate::{LiveFault, TimedFault};
 use bridge_io::{NoMemory, Store};
 use dash_writer::{LivePeriod, LiveRun};
-use fragment_times::{SegmentTimes, StartList, TimesList, part_scale, part_start};
+use fragment_times::{SegmentTimes, StartList, Stated, TimesList, part_scale, part_start};
 use hls_media::MediaSegment;
 use std::alloc::Global;
 use url_parts::Part;
 
+/// The most bytes of media files that a snapshot needs, up to the ends of the boxes that contain timescales and times.
+const MOST_BYTES: u64 = 536_870_912;
+
+/// What was read of media files.
+#[derive(Drop)]
+pub(crate) struct Read<X> {
+    pub(crate) value: X,
+    /// How many more bytes may come.
+    pub(crate) left: u64,
+}
+
+/// What a box of a file states, where its end isn't behind the bytes that may come.
+fn charged<X: Copy>(told: Stated<X>, left: u64) -> Result<Read<X>, TimedFault>
+    ensures { result ≡ spec.charged told.end told.value left }
+{
+    if left < told.end {
+        return Err(TimedFault::Live(LiveFault::Limit));
+    }
+    Ok(Read {
+        value: told.value,
+        left: left - told.end,
+    })
+}
+
 impl Snapshot<'_> {
     /// The media times of all segments, by section, then by track. A segment that the last accepted snapshot listed keeps its time, a
     /// section that it had keeps its tracks' timescales, and the files of all others are read: by section, then by track, the init
-    /// segment first and then the segments in order.
+    /// segment first and then the segments in order. `Limit` comes at the first file with which they need too many bytes.
     pub(crate) fn times<F: Store>(
         &self,
         alloc: Global,
@@ -30,21 +55,24 @@ impl Snapshot<'_> {
     ) -> Result<TimesList, TimedFault>
         requires known { All HasScales self.now.periods.now }
         ensures times { ForSome (F.files store.old) (λ files.
-            Gives (λ times. times) spec.timed_told result (spec.times_of (spec.snapshot_of self.now) files)) }
+            Gives (λ times. times) timed_told result (spec.read_times (snapshot_of self.now) files)) }
         ensures filled { IfOk result (λ times. length times ≡ length self.now.sections.now * length self.now.tracks.now) }
         ensures scaled { IfOk result (λ times. All IsScaled times) }
-        ensures cause { HasCause spec.unread (F.read_faults store.old) (F.read_faults store.new) result }
+        ensures cause { HasCause unread (F.read_faults store.old) (F.read_faults store.new) result }
         ensures files { F.files store.new ≡ F.files store.old }
         ensures writes { F.write_faults store.new ≡ F.write_faults store.old }
     {
-        let mut times = TimesList::new(alloc);
+        let mut read = Read {
+            value: TimesList::new(alloc),
+            left: MOST_BYTES,
+        };
         let mut place = 0;
         for number in self.sections {
             let known = period_in(*number, self.periods);
-            times = self.with_section(alloc, known, place, times, store)?;
+            read = self.with_section(alloc, known, place, read, store)?;
             place += 1;
         }
-        Ok(times)
+        Ok(read.value)
     }
 
     /// Adds those of the section at an index, track by track.
@@ -53,26 +81,30 @@ impl Snapshot<'_> {
         alloc: Global,
         known: Option<&LivePeriod>,
         place: usize,
-        former: TimesList,
+        former: Read<TimesList>,
         store: &mut F,
-    ) -> Result<TimesList, TimedFault>
+    ) -> Result<Read<TimesList>, TimedFault>
         requires known { IfSome (option_copied known) HasScales }
-        requires scaled { All IsScaled former }
-        ensures times { ForSome (F.files store.old) (λ files. Gives (λ times. times) spec.timed_told result
-            (spec.behind former (spec.section_times (spec.snapshot_of self.now) files (option_copied known.entry) place))) }
-        ensures filled { IfOk result (λ times. length times ≡ length former + length self.now.tracks.now) }
-        ensures scaled { IfOk result (λ times. All IsScaled times) }
-        ensures cause { HasCause spec.unread (F.read_faults store.old) (F.read_faults store.new) result }
+        requires scaled { All IsScaled former.value }
+        ensures times { ForSome (F.files store.old) (λ files. Gives (λ read. read) timed_told result
+            (spec.after former (spec.read_section (snapshot_of self.now) files (option_copied known.entry) place))) }
+        ensures filled { IfOk result (λ read. length read.value ≡ length former.value + length self.now.tracks.now) }
+        ensures scaled { IfOk result (λ read. All IsScaled read.value) }
+        ensures cause { HasCause unread (F.read_faults store.old) (F.read_faults store.new) result }
         ensures files { F.files store.new ≡ F.files store.old }
         ensures writes { F.write_faults store.new ≡ F.write_faults store.old }
     {
-        let mut times = former;
+        let Read {
+            value: mut times,
+            mut left,
+        } = former;
         for track in 0..self.tracks.len() {
             let stretch = self.tracks[track].at(place);
-            let own = self.track_times(alloc, run_at(known, track), stretch, store)?;
-            times.push(own)?;
+            let own = self.track_times(alloc, run_at(known, track), stretch, left, store)?;
+            times.push(own.value)?;
+            left = own.left;
         }
-        Ok(times)
+        Ok(Read { value: times, left })
     }
 
     /// The timescale of a track in a section, and the times of its segments there.
@@ -81,19 +113,26 @@ impl Snapshot<'_> {
         alloc: Global,
         known: Option<&LiveRun>,
         stretch: Stretch<'_>,
+        left: u64,
         store: &mut F,
-    ) -> Result<SegmentTimes, TimedFault>
+    ) -> Result<Read<SegmentTimes>, TimedFault>
         requires known { IfSome (option_copied known) HasScale }
-        ensures times { ForSome (F.files store.old) (λ files. Gives (λ times. times) spec.timed_told result
-            (spec.track_times self.now.folder.now files (option_copied known.entry) (stretch_of stretch.entry))) }
-        ensures scaled { IfOk result IsScaled }
-        ensures cause { HasCause spec.unread (F.read_faults store.old) (F.read_faults store.new) result }
+        ensures times { ForSome (F.files store.old) (λ files. Gives (λ read. read) timed_told result
+            (spec.read_track self.now.folder.now files (option_copied known.entry) (stretch_of stretch.entry) left)) }
+        ensures scaled { IfOk result (λ read. IsScaled read.value) }
+        ensures cause { HasCause unread (F.read_faults store.old) (F.read_faults store.new) result }
         ensures files { F.files store.new ≡ F.files store.old }
         ensures writes { F.write_faults store.new ≡ F.write_faults store.old }
     {
-        let scale = self.scale_of(alloc, known, stretch, store)?;
-        let starts = self.starts_of(alloc, stretch, store)?;
-        Ok(SegmentTimes { scale, starts })
+        let scale = self.scale_of(alloc, known, stretch, left, store)?;
+        let starts = self.starts_of(alloc, stretch, scale.left, store)?;
+        Ok(Read {
+            value: SegmentTimes {
+                scale: scale.value,
+                starts: starts.value,
+            },
+            left: starts.left,
+        })
     }
 
     /// The timescale of a track in a section: the known one, or that of its init segment.
@@ -102,21 +141,26 @@ impl Snapshot<'_> {
         alloc: Global,
         known: Option<&LiveRun>,
         stretch: Stretch<'_>,
+        left: u64,
         store: &mut F,
-    ) -> Result<u32, TimedFault>
+    ) -> Result<Read<u32>, TimedFault>
         requires known { IfSome (option_copied known) HasScale }
-        ensures scale { ForSome (F.files store.old) (λ files. Gives (λ scale. scale) spec.timed_told result
-            (spec.scale_of self.now.folder.now files (option_copied known.entry) (stretch_of stretch.entry))) }
-        ensures positive { IfOk result (λ scale. 0 < scale) }
-        ensures cause { HasCause spec.unread (F.read_faults store.old) (F.read_faults store.new) result }
+        ensures scale { ForSome (F.files store.old) (λ files. Gives (λ read. read) timed_told result
+            (spec.read_scale self.now.folder.now files (option_copied known.entry) (stretch_of stretch.entry) left)) }
+        ensures positive { IfOk result (λ read. 0 < read.value) }
+        ensures cause { HasCause unread (F.read_faults store.old) (F.read_faults store.new) result }
         ensures files { F.files store.new ≡ F.files store.old }
         ensures writes { F.write_faults store.new ≡ F.write_faults store.old }
     {
         if let Some(run) = known {
-            return Ok(run.scale);
+            return Ok(Read {
+                value: run.scale,
+                left,
+            });
         }
         let map = map_of(stretch.segments)?;
-        Ok(part_scale(alloc, self.folder, map, store)?)
+        let scale = part_scale(alloc, self.folder, map, store)?;
+        charged(scale, left)
     }
 
     /// The times of a track's segments in a section: the known ones, and then those of the other segments' files.
@@ -124,11 +168,12 @@ impl Snapshot<'_> {
         &self,
         alloc: Global,
         stretch: Stretch<'_>,
+        mut left: u64,
         store: &mut F,
-    ) -> Result<StartList, TimedFault>
-        ensures starts { ForSome (F.files store.old) (λ files. Gives (λ starts. starts) spec.timed_told result
-            (spec.starts_of self.now.folder.now files (stretch_of stretch.entry))) }
-        ensures cause { HasCause spec.unread (F.read_faults store.old) (F.read_faults store.new) result }
+    ) -> Result<Read<StartList>, TimedFault>
+        ensures starts { ForSome (F.files store.old) (λ files. Gives (λ read. read) timed_told result
+            (spec.read_starts self.now.folder.now files (stretch_of stretch.entry) left)) }
+        ensures cause { HasCause unread (F.read_faults store.old) (F.read_faults store.new) result }
         ensures files { F.files store.new ≡ F.files store.old }
         ensures writes { F.write_faults store.new ≡ F.write_faults store.old }
     {
@@ -136,15 +181,21 @@ impl Snapshot<'_> {
         starts.extend(stretch.known)?;
         for segment in stretch.new_segments() {
             let part = part_of(alloc, segment)?;
-            starts.push(part_start(alloc, self.folder, &part, store)?)?;
+            let start = part_start(alloc, self.folder, &part, store)?;
+            let read = charged(start, left)?;
+            starts.push(read.value)?;
+            left = read.left;
         }
-        Ok(starts)
+        Ok(Read {
+            value: starts,
+            left,
+        })
     }
 }
 
 /// The map of the first segment.
 pub(crate) fn map_of(segments: &[MediaSegment]) -> Result<&Part, LiveFault>
-    ensures { Gives (λ map. map.now) told result (spec.map_of segments.now) }
+    ensures { Gives (λ map. map.now) told result (map_of segments.now) }
 {
     match segments.first() {
         Some(MediaSegment { map: Some(map), .. }) => Ok(map),
@@ -154,7 +205,7 @@ pub(crate) fn map_of(segments: &[MediaSegment]) -> Result<&Part, LiveFault>
 
 /// The file of a segment, or its byte range of one.
 fn part_of(alloc: Global, segment: &MediaSegment) -> Result<Part, NoMemory>
-    ensures { IfOk result (λ part. part ≡ spec.part_of segment.now) }
+    ensures { IfOk result (λ part. part ≡ part_of segment.now) }
 {
     let address = segment.address.copy(alloc)?;
     let range = segment.range;

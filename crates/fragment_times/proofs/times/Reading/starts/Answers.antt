@@ -45,7 +45,7 @@ loop-starts-preserved g c =
           (next_part l.listing new c.in-Some.segment next) in
           rw c.in_ok-push.ensures.ok (next_told (λ part. alone (give part)) part (parts_of new.timeline new.left) l.starts _
           (sym left ∙ l.invariant.told files told) _
-          (one_told l.starts (give part) c.in_ok-part_start.field-0
+          (one_told l.starts (give part) c.in_ok-part_start.field-0.value
           (rw c.into_part-part.ensures at (c.in_ok-part_start.ensures.start files (l.invariant.files ∙ told)))));
     }
 

@@ -1,7 +1,7 @@
 use Rattle.std.proofs.Common.{◌≡◌, ◌≤◌, ◌*◌, All, Some, drop, length}
 use Rattle.bridge_io.specs.Outside.{Files}
 use Rattle.fragment_times.specs.Times.{IsScaled}
-use Rattle.hls_follow.specs.OwnTimes.{behind, snapshot_of, times_from, times_of}
+use Rattle.hls_follow.specs.{OwnTimes.snapshot_of, Readings.{after, most_bytes, read_from}}
 use Rattle.hls_follow.proofs.snapshot.Snapshot.times.Given as goal
 
 -- what is told so far, and then of the sections that are left, is told of all
@@ -13,9 +13,9 @@ invariant-loop-number g l =
       files : store.files l.store ≡ store.files l.fn.store;
       writes : store.write_faults l.store ≡ store.write_faults l.fn.store;
       never_falls : store.read_faults l.fn.store ≤ store.read_faults l.store;
-      scaled : All IsScaled l.times;
+      scaled : All IsScaled l.read.value;
       place : l.place ≡ l.number-index;
-      filled : length l.times ≡ l.number-index * length s.tracks;
+      filled : length l.read.value ≡ l.number-index * length s.tracks;
       told : (files : Files) → store.files l.fn.store ≡ Some files
-          → behind l.times (times_from s files l.place (drop l.number-index s.sections)) ≡ times_of s files;
+          → after l.read (read_from s files l.place (drop l.number-index s.sections)) ≡ read_from s files 0 s.sections most_bytes;
     }

@@ -2,7 +2,7 @@ use Rattle.std.proofs.Common.{◌≡◌, ◌≤◌, ◌+◌, All, Some, drop, le
 use Rattle.std.specs.Option.{option_copied}
 use Rattle.bridge_io.specs.Outside.{Files}
 use Rattle.fragment_times.specs.Times.{IsScaled}
-use Rattle.hls_follow.specs.OwnTimes.{behind, row_times, section_times, snapshot_of}
+use Rattle.hls_follow.specs.{OwnTimes.snapshot_of, Readings.{after, read_row, read_section}}
 use Rattle.hls_follow.proofs.snapshot.Snapshot.with_section.Given as goal
 
 -- what is told so far, and then of the tracks that are left, is told of all
@@ -16,8 +16,8 @@ invariant-loop-track g l =
       writes : store.write_faults l.store ≡ store.write_faults l.fn.store;
       never_falls : store.read_faults l.fn.store ≤ store.read_faults l.store;
       scaled : All IsScaled l.times;
-      filled : length l.times ≡ length l.fn.former + l.track;
+      filled : length l.times ≡ length l.fn.former.value + l.track;
       told : (files : Files) → store.files l.fn.store ≡ Some files
-          → behind l.times (row_times s.folder files known l.place l.track (drop l.track s.tracks))
-          ≡ behind l.fn.former (section_times s files known l.place);
+          → after (record { value = l.times; left = l.left }) (read_row s.folder files known l.place l.track (drop l.track s.tracks))
+          ≡ after l.fn.former (read_section s files known l.place);
     }
