@@ -1,6 +1,10 @@
 -- What an MPD changes, by the places of its Periods.
 use Rattle.std.proofs.Common.{◌≡◌, ℕ, zero, suc, ◌+◌, ◌<◌, ◌||◌, ◌==◌, not, Bool, true, List, [], length, Option, Some, None, refl}
-use Rattle.std.proofs.{Common.{sym, ◌∙◌, ap, arith, ◌∷◌, map}, lemmas.Bool.{eqb-true, not-false}, lemmas.Option.slice_get-map}
+use Rattle.std.proofs.{Common.{sym, ◌∙◌, ap, ap₂, arith, ◌∷◌, map}, lemmas.Bool.{and_parts, eqb-true, not-false}}
+use Rattle.std.proofs.lemmas.{Option.slice_get-map, Slice.Eq.bytes_eq-Decides}
+use Rattle.std.specs.Option.{option_eq}
+use Rattle.reload_law.specs.Rules.{same_part, same_range}
+use Rattle.url_parts.specs.{declared.address.Part.Part, declared.range.Range.Range}
 use Rattle.std.specs.{Prelude.{IfSome, flat_map, option_map, option_to_list, slice_get, is_some}, List.{list_any, range_with_len}}
 use Rattle.mpd_rules.specs.{Laws.are_once, declared.rows.PeriodRow.PeriodRow, Typed.period_with}
 use Rattle.presentation.specs.{Counting.sections_of, Presented.{Presented, content_at, start_of}}
@@ -52,6 +56,25 @@ module _ (c : Common) (p : Presented) (place : ℕ) (once : are_once (ids_of c.k
 
   pub differs_is : (s : ℕ) → s < length p.sections → differs_at c p s ≡ has_other c.known p place s
   differs_is s less = rw (known_is s less) refl
+
+-- ---- the same parts
+
+same_ranges : (a b : Range) → same_range a b ≡ true → a ≡ b
+same_ranges a b is =
+    let both = and_parts _ _ is in
+    ap₂ (λ (f c : ℕ). record { first = f; count = c }) (eqb-true _ _ both.0) (eqb-true _ _ both.1)
+
+same_ranges_there : (a b : Option Range) → option_eq same_range a b ≡ true → a ≡ b
+same_ranges_there None None is = refl
+same_ranges_there None (Some b) is = absurd (cc)
+same_ranges_there (Some a) None is = absurd (cc)
+same_ranges_there (Some a) (Some b) is = ap Some (same_ranges a b is)
+
+pub same_parts : (a b : Part) → same_part a b ≡ true → a ≡ b
+same_parts a b is =
+    let both = and_parts _ _ is in
+    ap₂ (λ (text : List ℕ) (range : Option Range). record { address = text; range = range })
+    ((bytes_eq-Decides a.address b.address).0 both.0) (same_ranges_there a.range b.range both.1)
 
 -- ---- Periods without ids, however their segments are told
 

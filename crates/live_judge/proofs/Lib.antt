@@ -5,6 +5,7 @@ pub mod New
 pub mod Removing
 pub mod Keeping
 pub mod Contents
+pub mod Ordering
 pub mod Finding
 pub mod Changing
 pub mod Counts

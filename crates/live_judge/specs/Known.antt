@@ -6,14 +6,12 @@ use Rattle.live_meaning.specs.Known.{Attributes, Known}
 use Rattle.live_judge.specs.{declared.known.KeptAttributes.KeptAttributes, declared.known.KnownPeriod.KnownPeriod}
 
 abbrev pub attributes_shown : KeptAttributes → Attributes
-attributes_shown a = record { timescale = a.timescale; time_offset = a.time_offset; initialization = a.initialization }
+attributes_shown a =
+    let source = a.source.value in
+    record { timescale = source.timescale; time_offset = a.time_offset; initialization = source.initialization }
 
 abbrev pub known_shown : KnownPeriod → Known
 known_shown k = record { id = k.id; start = k.start; attributes = map attributes_shown k.attributes.items }
-
--- each of some ids is found at its index
-abbrev pub IsIndex : (places : List ℕ → Option ℕ) → (ids : List (List ℕ)) → Type 0
-IsIndex places ids = (place : ℕ) (id : List ℕ) → slice_get ids place ≡ Some id → places id ≡ Some place
 
 -- an index, where the id is at it
 abbrev pub if_there : (ids : List (List ℕ)) → (id : List ℕ) → Option ℕ → Option ℕ

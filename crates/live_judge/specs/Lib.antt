@@ -1,6 +1,7 @@
 pub mod Faults
 pub mod Shown
 pub mod Known
+pub mod Order
 pub mod Sound
 pub mod New
 pub mod Changed

@@ -321,12 +321,12 @@ fn is_same(kept: &KeptAttributes, offset: Tick, initialization: &Part) -> bool
     requires { pos 0 ≤ℤ offset.n }
     ensures { result ≡ same_attributes (attributes_shown kept.now) (spec.attributes_by (time_of offset) initialization.now) }
 {
-    kept.timescale == offset.scale
+    kept.source.timescale == offset.scale
         && kept.time_offset == offset.n as u64
-        && is_same_part(&kept.initialization, initialization)
+        && is_same_part(&kept.source.initialization, initialization)
 }
 
-fn is_same_part(one: &Part, other: &Part) -> bool
+pub(crate) fn is_same_part(one: &Part, other: &Part) -> bool
     ensures { result ≡ same_part one.now other.now }
 {
     one.address.as_str() == other.address.as_str() && one.range == other.range

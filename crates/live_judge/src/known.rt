@@ -1,29 +1,36 @@
 // The Periods that were seen.
-ghost use Rattle.std.specs.Prelude.{◌≡◌, ℕ, List, ◌-◌, ◌<◌, ◌≤◌, ◌++◌, true, length, map, IfOk, OnOk, OnErr, Some, option_map};
+ghost use Rattle.std.specs.Prelude.{◌≡◌, ◌++◌, ◌-◌, ◌<◌, ◌≤◌, true, length, map, option_map, IfOk, OnErr, OnOk, Some};
 ghost use Rattle.std.specs.List.{position, range_with_len};
 ghost use Rattle.std.specs.Str.{bytes_eq};
-ghost use Rattle.std.specs.BTreeMap.{get_by_text};
-ghost use Rattle.std.specs.Map.{update};
 ghost use Rattle.mpd_rules.specs.Laws.{are_once};
 ghost use Rattle.live_meaning.specs.Known.{attributes_at, attributes_of, ids_of, known_at};
 ghost use Rattle.presentation.specs.Presented.{content_at};
-ghost use Rattle.live_judge.specs.Known.{IsIndex, attributes_shown, if_there, known_shown};
+ghost use Rattle.live_judge.specs.Known.{attributes_shown, if_there, known_shown};
 
+use crate::changed::is_same_part;
+use crate::order::{order_with, rank_of};
 use bridge_io::{NoMemory, Text};
 use exact_time::Nanos;
 use presentation::Presentation;
 use std::alloc::Global;
-use std::collections::BTreeMap;
 use std::marker::Model;
+use std::rc::Rc;
 use url_parts::Part;
 
 /// What may not change of a track in a Period (ISO/IEC 23009-1, 5.3.9.2).
 #[derive(Drop)]
 pub struct KeptAttributes {
+    /// `@presentationTimeOffset`, in ticks.
+    pub time_offset: u64,
+    /// The rest of it, shared with the Period before where that has the same.
+    pub source: Rc<Source>,
+}
+
+/// What may not change of a track, and is often the same in the next Period.
+#[derive(Drop)]
+pub struct Source {
     /// How many ticks make a second.
     pub timescale: u32,
-    /// `@presentationTimeOffset`, in these ticks.
-    pub time_offset: u64,
     /// The init segment.
     pub initialization: Part,
 }
@@ -45,22 +52,22 @@ pub struct KnownPeriod {
 #[derive(Drop)]
 pub struct KnownPeriods {
     periods: Vec<KnownPeriod>,
-    /// The index of each one by its id. A change that ran out of memory may have left further ids here.
-    places: BTreeMap<String, usize>,
+    /// Their indices in the order of their ids.
+    order: Vec<usize>,
 }
 
 impl Model for KnownPeriods {
     ghost use Rattle.std.specs.Prelude.{List, map};
-    ghost use Rattle.std.specs.BTreeMap.{get_by_text};
     ghost use Rattle.live_meaning.specs.Known.{Known, ids_of};
 
     ghost Value = { List Known };
 
-    ghost use Rattle.live_judge.specs.Known.{IsIndex, known_shown};
+    ghost use Rattle.live_judge.specs.Known.{known_shown};
+    ghost use Rattle.live_judge.specs.Order.{IsOrder};
 
     ghost view = { λ k. map known_shown k.periods.items };
 
-    ghost invariant = { λ k. IsIndex (get_by_text k.places) (ids_of (map known_shown k.periods.items)) };
+    ghost invariant = { λ k. IsOrder (ids_of (map known_shown k.periods.items)) k.order.items };
 }
 
 impl KnownPeriods {
@@ -74,7 +81,7 @@ impl KnownPeriods {
     {
         KnownPeriods {
             periods: Vec::new(alloc),
-            places: BTreeMap::new(alloc),
+            order: Vec::new(alloc),
         }
     }
 
@@ -96,7 +103,8 @@ impl KnownPeriods {
     pub fn find(&self, id: &str) -> Option<usize>
         ensures { result ≡ position (bytes_eq id.now) (ids_of self.now) }
     {
-        self.if_there(id, self.places.get(id).copied())
+        let rank = rank_of(&self.periods, &self.order, id);
+        self.if_there(id, self.order.get(rank).copied())
     }
 
     /// An index, where the id is at it.
@@ -110,6 +118,14 @@ impl KnownPeriods {
         }
     }
 
+    /// What may not change of the tracks in the Period that was seen last.
+    fn latest(&self) -> &[KeptAttributes] {
+        match self.periods.last() {
+            Some(period) => &period.attributes,
+            None => &[],
+        }
+    }
+
     /// Adds Periods that weren't seen. An error leaves them as they were.
     ///
     /// Requires that no id is repeated among all of them.
@@ -118,55 +134,28 @@ impl KnownPeriods {
         ensures ok { OnOk result (self.new ≡ self.old ++ map known_shown new.items) }
         ensures err { OnErr result (self.new ≡ self.old) }
     {
-        number(alloc, &mut self.places, &self.periods, &new)?;
+        let count = self.periods.len();
         self.periods.append(&mut new)?;
-        Ok(())
+        match order_with(alloc, &self.periods, count, &self.order) {
+            Ok(order) => {
+                self.order = order;
+                Ok(())
+            }
+            Err(fault) => {
+                self.periods.truncate(count);
+                Err(fault)
+            }
+        }
     }
 }
 
-/// Indexes the ids of new Periods after those of the known ones.
-fn number(
-    alloc: Global,
-    places: &mut BTreeMap<String, usize>,
-    known: &[KnownPeriod],
-    new: &[KnownPeriod],
-) -> Result<(), NoMemory>
-    requires index { IsIndex (get_by_text places.old) (ids_of (map known_shown known.now)) }
-    requires once { are_once (ids_of (map known_shown known.now ++ map known_shown new.now)) ≡ true }
-    ensures index { IsIndex (get_by_text places.new) (ids_of (map known_shown known.now)) }
-    ensures all { OnOk result (IsIndex (get_by_text places.new) (ids_of (map known_shown known.now ++ map known_shown new.now))) }
-{
-    let mut place = known.len();
-    let mut rest = new;
-    while let Some((period, later)) = rest.split_first() {
-        place_at(alloc, places, period.id.as_str(), place)?;
-        place += 1;
-        rest = later;
-    }
-    Ok(())
-}
-
-/// Indexes an id. An error leaves the map as it was.
-fn place_at(
-    alloc: Global,
-    places: &mut BTreeMap<String, usize>,
-    id: &str,
-    place: usize,
-) -> Result<(), NoMemory>
-    ensures ok { OnOk result ((x : List ℕ) → get_by_text places.new x ≡ update bytes_eq (get_by_text places.old) id.now (Some place) x) }
-    ensures err { OnErr result (get_by_text places.new ≡ get_by_text places.old) }
-{
-    let key = String::from_str(alloc, id)?;
-    places.insert(key, place)?;
-    Ok(())
-}
-
-/// The Periods of a presentation from a section on, as they are stored once they are accepted.
+/// The Periods of a presentation from a section on, as they are stored once they are accepted after the known ones.
 #[tactic(auto, using(crate::proofs::Walks::in_order))]
 pub fn periods_from(
     alloc: Global,
     force: &Presentation,
     section: usize,
+    known: &KnownPeriods,
 ) -> Result<Vec<KnownPeriod>, NoMemory>
     requires { section ≤ length force.now.sections }
     ensures { IfOk result (λ new. map known_shown new.items ≡ map (known_at force.now)
@@ -174,19 +163,33 @@ pub fn periods_from(
 {
     let mut new = Vec::new(alloc);
     for at in section..force.sections().len() {
-        new.push(period_of(alloc, force, at)?)?;
+        let period = period_of(alloc, force, at, before(&new, known))?;
+        new.push(period)?;
     }
     Ok(new)
 }
 
-fn period_of(alloc: Global, force: &Presentation, section: usize) -> Result<KnownPeriod, NoMemory>
+/// What may not change of the tracks in the last Period: of the new ones, or else of the known ones.
+fn before<'a>(new: &'a [KnownPeriod], known: &'a KnownPeriods) -> &'a [KeptAttributes] {
+    match new.last() {
+        Some(period) => &period.attributes,
+        None => known.latest(),
+    }
+}
+
+fn period_of(
+    alloc: Global,
+    force: &Presentation,
+    section: usize,
+    before: &[KeptAttributes],
+) -> Result<KnownPeriod, NoMemory>
     requires { section < length force.now.sections }
     ensures { IfOk result (λ k. known_shown k ≡ known_at force.now section) }
 {
     let described = &force.sections().as_slice()[section];
     let id = Text::copy_of(alloc, described.id.as_str())?;
     let start = described.start;
-    let attributes = attributes_of(alloc, force, section)?;
+    let attributes = attributes_of(alloc, force, section, before)?;
     Ok(KnownPeriod {
         id,
         start,
@@ -199,13 +202,14 @@ fn attributes_of(
     alloc: Global,
     force: &Presentation,
     section: usize,
+    before: &[KeptAttributes],
 ) -> Result<Vec<KeptAttributes>, NoMemory>
     requires { section < length force.now.sections }
     ensures { IfOk result (λ all. map attributes_shown all.items ≡ attributes_at force.now section) }
 {
-    let mut all = Vec::new(alloc);
+    let mut all = Vec::with_capacity(alloc, force.tracks().len())?;
     for track in 0..force.tracks().len() {
-        all.push(attributes_in(alloc, force, section, track)?)?;
+        all.push(attributes_in(alloc, force, section, track, before.get(track))?)?;
     }
     Ok(all)
 }
@@ -215,16 +219,41 @@ fn attributes_in(
     force: &Presentation,
     section: usize,
     track: usize,
+    before: Option<&KeptAttributes>,
 ) -> Result<KeptAttributes, NoMemory>
     requires section { section < length force.now.sections }
     requires track { track < length force.now.tracks }
     ensures { IfOk result (λ kept. option_map attributes_of (content_at force.now section track) ≡ Some (attributes_shown kept)) }
 {
     let offset = force.runs(section, track).offset();
-    let initialization = force.initialization(section, track).copy(alloc)?;
+    let initialization = force.initialization(section, track);
     Ok(KeptAttributes {
-        timescale: offset.scale,
         time_offset: offset.n as u64,
-        initialization,
+        source: source_of(alloc, offset.scale, initialization, before)?,
     })
+}
+
+/// A timescale and an init segment: those of the Period before, where they are the same.
+#[tactic(auto, using(crate::proofs::Changing::same_parts))]
+fn source_of(
+    alloc: Global,
+    timescale: u32,
+    initialization: &Part,
+    before: Option<&KeptAttributes>,
+) -> Result<Rc<Source>, NoMemory>
+    ensures timescale { IfOk result (λ source. source.value.timescale ≡ timescale) }
+    ensures initialization { IfOk result (λ source. source.value.initialization ≡ initialization.now) }
+{
+    if let Some(kept) = before {
+        let source = &kept.source;
+        if source.timescale == timescale && is_same_part(&source.initialization, initialization) {
+            return Ok(source.clone()?);
+        }
+    }
+    let initialization = initialization.copy(alloc)?;
+    let source = Source {
+        timescale,
+        initialization,
+    };
+    Ok(Rc::new(alloc, source)?)
 }

@@ -161,7 +161,8 @@ pub(crate) fn first_standing(
         IfOk result (spec.IsFirstStanding terms (segments_mpd mpd.now) now opened) }
 {
     let mut known = KnownPeriods::new(alloc);
-    known.extend(alloc, periods_from(alloc, &opened, 0)?)?;
+    let periods = periods_from(alloc, &opened, 0, &known)?;
+    known.extend(alloc, periods)?;
     Ok(Standing {
         base: base.copy(alloc)?,
         digits,

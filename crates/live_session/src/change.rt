@@ -201,7 +201,7 @@ fn new_periods(alloc: Global, next: &Next<'_>) -> Result<Vec<KnownPeriod>, NoMem
     if first == next.force.sections().len() {
         return Ok(Vec::new(alloc));
     }
-    periods_from(alloc, next.force, first)
+    periods_from(alloc, next.force, first, &next.standing.known)
 }
 
 /// When the MPD in force after the update was published.

@@ -9,13 +9,13 @@ pub extend-requires : goal.extend-requires
 extend-requires c =
     let p = c.args.opened in
     ap (λ (ks : List Known). are_once (ids_of ks))
-    (first_known p _ _ c.new-known.ensures c.in_ok-periods_from.ensures ∙ all_new (periods_of p)) ∙ c.requires.once
+    (first_known p _ _ c.new-known.ensures c.in_ok-periods.ensures ∙ all_new (periods_of p)) ∙ c.requires.once
 
 pub returns : goal.returns
 returns c =
     let p = c.args.opened in
     let known : c.extend.new.self ≡ known_with [] p = c.in_ok-extend.ensures.ok
-    ∙ first_known p _ _ c.new-known.ensures c.in_ok-periods_from.ensures in
+    ∙ first_known p _ _ c.new-known.ensures c.in_ok-periods.ensures in
     let target = c.target_of.ensures.target in
     record {
       common = rw (c.in_ok-copy.ensures, c.publish_time.ensures, known, target, c.max_segment.ensures, c.requires.looked) refl;
