@@ -4,8 +4,7 @@
 # within 5 seconds and 600 MB. Then MPDs with long texts of which an address keeps little, within 2 seconds and 200 MB, and ones whose names
 # are longer than any address, within 2 seconds and 100 MB. Then `bridge follow` and `bridge follow-hls` of streams, and
 # `bridge follow-hls-times` of media files, as a stranger may make them: each frame and each round within 5 seconds, and the run within
-# 1,200 MB. More than some 3,000 of the segments with boxes of 8 bytes before their moof aren't answered in that time: docs/PERFORMANCE.md
-# has how long they take. Then `bridge_publish` of two playlists of as many segments as fit that share none: each publication within 5 seconds and 300 MB.
+# 1,200 MB. Then `bridge_publish` of two playlists of as many segments as fit that share none: each publication within 5 seconds and 300 MB.
 #
 # It wants `rt` and python3, and proves the programs first where they aren't kept. BRIDGE and PUBLISH name others.
 set -euo pipefail
@@ -138,21 +137,24 @@ def live(attributes, start, identity, segments, tracks):
     """A live MPD of one Period."""
     return LIVE.format(attributes, f'<Period id="{identity}" start="PT{start}S">' + "".join(set_of(segments, tracks))[len("<Period>"):])
 
-def many(seconds, count, inside):
-    """So many Periods from an instant on, of 2 s each."""
-    return LIVE.format(depth(2 * count), "".join(
-        f'<Period id="{identity}" start="PT{seconds + 2 * k}S" duration="PT2S">' + "".join(set_of([TEMPLATE.format(' duration="2"') + "/>"], 1))[len("<Period>"):]
-        for k, identity in enumerate(inside)))
+def many(seconds, count, inside, initialization="i", tracks=1, listed=None):
+    """So many Periods from an instant on, of 2 s each, of which so many are listed."""
+    each = set_of([TEMPLATE.replace('"i"', f'"{initialization}"').format(' duration="2"') + "/>"], tracks)
+    return LIVE.format(depth(2 * (listed or count)), "".join(
+        f'<Period id="{identity}" start="PT{seconds + 2 * k}S" duration="PT2S">' + "".join(each)[len("<Period>"):] for k, identity in enumerate(inside)))
 
 entries = [TEMPLATE.format(' timescale="1000"') + "><SegmentTimeline>", *['<S d="1999"/><S d="2001"/>'] * 300_000, "</SegmentTimeline></SegmentTemplate>"]
 timeline = live(depth(60), 0, "p", entries, 1)
 shared = live(depth(4_000), 0, "p", entries, 190)
 numbers = live(depth(10_000), 0, "p", [TEMPLATE.format(' duration="2"').replace("$Number$", "f" * 100 + "$Number%09d$") + "/>"], 20)
 alike = "i" * 8_000
+kept = "i" * 1_000 + "$RepresentationID$"
 streams = [
     (stream("frames", [(1_000_000 + 2 * k, None if k % 2 else timeline) for k in range(10)]), BASE, "10 frames, by turns 600,000 S and an instant"),
     (stream("periods", [(2_000 * (k + 1), many(2_000 * k, 1_000, range(1_000 * k, 1_000 * (k + 1)))) for k in range(20)]), BASE,
      "20 frames of 1,000 Periods that no other has"),
+    (stream("known", [(1_600 * (k + 1), many(1_600 * k, 800, range(800 * k, 800 * (k + 1)), kept, 200, 1)) for k in range(6)]), BASE,
+     "6 frames of 800 Periods that no other has, with 200 tracks, each with an initialization address of 1 kB"),
     (stream("tracks", [(1_000_000, shared), (1_000_002, None), (1_000_004, shared)]), BASE, "600,000 S that 190 tracks share, 2,000 segments kept of each"),
     (stream("alike", [(2_000 + 2 * k, many(0, 1_000, (f"{alike}{place}" for place in range(1_000)))) for k in range(3)]), BASE,
      "1,000 Periods with ids of 8 kB that begin alike, three times"),
@@ -177,6 +179,7 @@ def sections(count):
         f"#EXTINF:2,\ns{k}.m4s\n#EXT-X-DISCONTINUITY\n" for k in range(count - 1)) + f"#EXTINF:2,\ns{count - 1}.m4s\n"
 
 file("one.m3u8", "#EXTM3U\n", VARIANT % 0)
+master("five.m3u8", (VARIANT % k for k in range(5)))
 master("many.m3u8", (VARIANT % k for k in range(200)))
 padded = "#" + "p" * 331_000 + "\n"
 large = "f" * 60
@@ -198,6 +201,7 @@ media = {
     "tiny.m4s": TINY * (EIGHT // 8 - 8) + fragment(0),
     "inside.m4s": fragment(0, *[TINY] * (EIGHT // 8 - 16)),
     "far.m4s": TINY * 131_000 + fragment(0),
+    "near.m4s": TINY * ((536_870_912 // 500_001 - len(fragment(0))) // 8) + fragment(0) + box(b"mdat", bytes(EIGHT)),
     "cut.m4s": box(b"moof", bytes(EIGHT))[:65_600],
     "ranges.mp4": b"".join(fragment(2_000 * k) for k in range(100_000)),
 }
@@ -205,11 +209,14 @@ for name, content in media.items():
     put(name, content)
 LONG = len(fragment(0))
 
-def files(name, segments, initialization="i.mp4"):
-    """A stream of one round whose segments are these lines."""
-    text = f'#EXTM3U\n#EXT-X-VERSION:6\n#EXT-X-TARGETDURATION:2\n#EXT-X-MAP:URI="{initialization}"\n' + "".join(
+def listed(segments, initialization="i.mp4"):
+    """A playlist whose segments are these lines."""
+    return f'#EXTM3U\n#EXT-X-VERSION:6\n#EXT-X-TARGETDURATION:2\n#EXT-X-MAP:URI="{initialization}"\n' + "".join(
         f"#EXTINF:2,\n{segment}\n" for segment in segments)
-    return rounds(name, [[text]])
+
+def files(name, segments, initialization="i.mp4"):
+    """A stream of one round of such a playlist."""
+    return rounds(name, [[listed(segments, initialization)]])
 
 def ranged(count, length, first=0):
     """So many segments of one file, each of so many bytes."""
@@ -218,7 +225,7 @@ def ranged(count, length, first=0):
 times = [
     (files("tiny", ["tiny.m4s"]), "a segment of a million boxes of 8 bytes before its moof"),
     (files("inside", ["inside.m4s"]), "a segment whose moof has a million boxes of 8 bytes"),
-    (files("far", ["far.m4s"] * 100), "100 segments, each with 131,000 boxes of 8 bytes before its moof"),
+    (files("far", ["far.m4s"] * 100_000), "100,000 segments, each with 131,000 boxes of 8 bytes before its moof"),
     (files("huge", ["ranges.mp4"], "huge.mp4"), "an init segment whose moov has 8 MB"),
     (files("cut", ["cut.m4s"]), "a moof of 8 MB that is cut off"),
     (files("over", ranged(1, 100, LONG * 100_000)), "a range that begins at its file's end"),
@@ -229,6 +236,8 @@ times = [
 streams = [(name, ["follow", "live.mpd"], base, what) for name, base, what in streams]
 streams += [(name, ["follow-hls", master], BASE, what) for name, master, what in hls]
 streams += [(name, ["follow-hls-times", "one.m3u8"], BASE, what) for name, what in times]
+streams += [(rounds("near", [[listed(["near.m4s"] * 100_000)] * 5]), ["follow-hls-times", "five.m3u8"], BASE,
+             "5 tracks of 100,000 segments, each with so many boxes before its moof that all need just less than they may, of files of 8 MB")]
 print("| stream | MB | last line | s, the longest frame | MB of memory |\n|---|---|---|---|---|")
 for name, words, base, what in streams:
     seconds, megabytes, last = framed(name, [bridge, *words, f"--base={base}"])
