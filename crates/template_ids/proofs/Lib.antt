@@ -1,3 +1,4 @@
 mod Cutting
 pub mod FileNames
 pub mod Paths
+pub mod LongNames

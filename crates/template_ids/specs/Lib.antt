@@ -3,3 +3,4 @@ pub mod Templates
 pub mod Pieces
 pub mod FileNames
 pub mod Filled
+pub mod Long

@@ -18,10 +18,11 @@ use std::mem;
 #[derive(Drop)]
 pub struct Filled {
     /// The common prefix of all names: where they have a number, it ends with the last `/` before the first one.
-    front: String,
-    slots: Vec<Slot>,
+    pub front: String,
+    /// The numbers, with the texts between them.
+    pub slots: Vec<Slot>,
     /// The text after the last number.
-    last: String,
+    pub last: String,
 }
 
 impl Filled {

@@ -8,6 +8,7 @@ use bridge_io::Text;
 pub struct Slot {
     /// The text between it and the number before it.
     pub before: Text,
+    /// Which number it is.
     pub counter: Counter,
     /// How many digits it is padded to.
     pub width: u8,
@@ -17,6 +18,8 @@ pub struct Slot {
 /// A number that a segment has of its own.
 #[derive(Clone, Copy, Debug)]
 pub enum Counter {
+    /// The segment's number.
     Number,
+    /// The segment's start in media time, in ticks.
     Time,
 }

@@ -10,6 +10,9 @@ use std::alloc::Global;
 use std::marker::Model;
 use std::rc::Rc;
 
+/// The most bytes that a file name has.
+const MAX_NAME_LEN: usize = 255;
+
 /// A segment template of an MPD (ISO/IEC 23009-1, 5.3.9.4.4).
 ///
 /// The text is cut at each `$`, and the parts with odd indices, counted from 0, are identifiers: an empty one stands
@@ -90,6 +93,13 @@ impl Template {
         self.parts.text.as_str()
     }
 
+    /// The pieces of the template's text.
+    pub(crate) fn pieces(&self) -> &[Piece]
+        ensures { AreOf self.now result.now }
+    {
+        self.parts.pieces.as_slice()
+    }
+
     /// The text of the template with each identifier replaced by what it stands for.
     pub fn name(&self, alloc: Global, ids: &Ids) -> Result<Text, NoMemory>
         ensures { IfOk result (λ name. name ≡ named self.now ids.now) }
@@ -143,6 +153,9 @@ impl Template {
         ensures { IfOk result (λ names. names ≡ names_files self.now
             (record { id = id.now; bandwidth = bandwidth; number = 0; time = 0 })) }
     {
+        if self.least_len(id, bandwidth) > MAX_NAME_LEN {
+            return Ok(false);
+        }
         let ids = BorrowedIds {
             id,
             bandwidth,

@@ -17,4 +17,5 @@ pub mod Rises
 pub mod RunsLemmas
 pub mod Splits
 pub mod WalkLemmas
-mod Beneath
+pub mod ShortNames
+mod SharedParts

@@ -1,7 +1,7 @@
 -- The text that was written last of a URL.
 use Rattle.std.specs.Prelude.{◌≡◌, ℕ, List, Option, IfSome, Result, Ok, Err, string_bytes}
 use Rattle.url_parts.specs.{declared.address.Part.Part, declared.range.Range.Range, Spelling.{PlaylistPlace, SpellsNames, spelled}}
-use Rattle.timeline.specs.{Expansions.SegmentTimeline, FileNames.{AreFilesOf, AreInFolder, AreNames, file_name, folder_of_names}}
+use Rattle.timeline.specs.{Expansions.SegmentTimeline, FileNames.{AreInFolder, AreNames, file_name, folder_of_names}}
 use Rattle.timeline.specs.declared.address_writer.{AddressWriter.TheInside.Inside, SpelledFiles.SpelledFiles}
 use Rattle.timeline.specs.{Makers.IsMakerOf, declared.fault.ListFault.ListFault, declared.names.{Files.Files, Names.Names}}
 use Rattle.template_ids.specs.Filled.{name_of}

@@ -24,6 +24,7 @@ mod run_slice;
 mod run_table;
 mod runs;
 mod shared_timeline;
+mod short_names;
 mod span;
 mod spans;
 mod time_walk;

@@ -1,6 +1,6 @@
 // The names of segments, and the URLs that they give.
-ghost use Rattle.std.specs.Prelude.{◌≡◌, IfOk, IfSome, None, true};
-ghost use Rattle.std.specs.Option.{option_copied};
+ghost use Rattle.std.specs.Prelude.{◌≡◌, IfOk, IfSome, None, slice_get, true};
+ghost use Rattle.std.specs.Option.{option_and_then, option_copied};
 ghost use Rattle.bridge_io.specs.Answer.{Gives};
 ghost use Rattle.timeline.specs.FileNames.{AreFilesOf, AreInFolder, are_files};
 ghost use Rattle.template_ids.specs.Templates.{ids_of, named};
@@ -188,10 +188,11 @@ impl Names {
                 parts.get(place as usize),
                 base,
             ),
-            Names::Shared { parts, base } => listed_part(
+            Names::Shared { parts, base } => shared_part(
                 alloc,
                 &mut maker.resolver,
-                parts.parts().get(place as usize),
+                parts,
+                place as usize,
                 base,
             ),
             Names::Addresses { parts } => own_part(alloc, parts.get(place as usize)),
@@ -250,6 +251,35 @@ fn listed_part(
             None => joined(alloc, resolver, base, base.as_str(), *range),
             Some(reference) => joined(alloc, resolver, base, reference.as_str(), *range),
         },
+    }
+}
+
+/// The URL and byte range of a segment by its name in a shared list, which may have a shorter one for it.
+fn shared_part(
+    alloc: Global,
+    resolver: &mut Resolver,
+    parts: &SharedNames,
+    place: usize,
+    base: &Base,
+) -> Result<Part, ListFault>
+    ensures { Gives (λ part. part) list_refusal result (listed_part base.now (slice_get parts.now place)) }
+{
+    let part = parts.parts().get(place);
+    let Some(short) = parts.short(place) else {
+        return listed_part(alloc, resolver, part, base);
+    };
+    let range = range_of(part);
+    let _ = base.as_str(); // opens the value, for its invariant
+    joined(alloc, resolver, base, short, range)
+}
+
+/// The byte range of a part of a list.
+fn range_of(part: Option<&RefPart>) -> Option<Range>
+    ensures { result ≡ option_and_then (λ part. part.range) (option_copied part.entry) }
+{
+    match part {
+        None => None,
+        Some(part) => part.range,
     }
 }
 

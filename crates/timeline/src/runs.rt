@@ -176,8 +176,10 @@ impl Runs {
         requires kept { AreKept (members_so_far builder) }
         ensures { result ≡ timeline_from scale origin names (members_so_far builder) }
     {
+        let mut table = builder.table;
+        table.own.shrink_to_fit(); // most have one or two runs, and a list begins with room for four
         Runs {
-            table: builder.table,
+            table,
             endless: builder.endless,
             total: builder.total,
             scale,

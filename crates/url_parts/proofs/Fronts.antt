@@ -25,7 +25,7 @@ last_gone path segment =
     let none = is_empty-nil _ (is_empty-percent_encode PATH []) in
     ap (λ t. without_last_segment (q ++ 47 ∷ t)) none ∙ ap (λ r. unwrap_or r.0 []) (rsplit_once_at 47 q [] (All-nil (IsNot 47)))
 
-behind_slash : (front path segment rest : List ℕ) → parse_segments SpecialNotFile path segment (front ++ 47 ∷ rest)
+pub behind_slash : (front path segment rest : List ℕ) → parse_segments SpecialNotFile path segment (front ++ 47 ∷ rest)
     ≡ parse_segments SpecialNotFile (without_last_segment (parse_segments SpecialNotFile path segment (front ++ 47 ∷ []))) [] rest
 unfolding parse_segments
 behind_slash [] path segment rest = ap (λ p. parse_segments SpecialNotFile p [] rest) (sym (last_gone path segment))
@@ -74,7 +74,7 @@ url_beneath base front deeper valid is resolved path more =
     ∙ sym (resolve_along url path (along_is_base base (front ++ 47 ∷ []) deeper valid is accepted) more)
     ∙ ap (λ t. resolve t path) (accepted_text url deeper accepted)
 
-folder_is_path : (text : List ℕ) → is_folder_path text ≡ true → IsPath text × (text ≡ take (length text - 1) text ++ 47 ∷ [])
+pub folder_is_path : (text : List ℕ) → is_folder_path text ≡ true → IsPath text × (text ≡ take (length text - 1) text ++ 47 ∷ [])
 folder_is_path text is =
     let ends = and_parts (list_all is_path_byte text && nat_lt 0 (length text) && not (slice_index text 0 == 47)) _ is in
     let begins = and_parts (list_all is_path_byte text && nat_lt 0 (length text)) _ ends.0 in

@@ -8,4 +8,8 @@ pub mod Spellings
 pub mod Parsed
 pub mod Chains
 pub mod Codes
-mod Fronts
+pub mod Fronts
+pub mod ReadAlike
+pub mod InLine
+pub mod Rooted
+pub mod LongNames

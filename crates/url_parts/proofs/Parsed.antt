@@ -159,7 +159,7 @@ parts_scheme scheme (Some base) body query fragment has = both_have (HasScheme s
 
 -- ---- what is valid
 
-is_scheme : (scheme : List ℕ) → is_web scheme ≡ true → IsScheme scheme
+pub is_scheme : (scheme : List ℕ) → is_web scheme ≡ true → IsScheme scheme
 unfolding scheme_len
 is_scheme scheme web = at_web IsScheme scheme web (record { nonempty = lit< tt; whole = refl; lower = refl })
     (record { nonempty = lit< tt; whole = refl; lower = refl })

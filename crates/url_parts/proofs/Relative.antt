@@ -143,7 +143,7 @@ name_path_valid path name list is = let s = name_segments name is in record {
 above_space : (text : List ℕ) → IsPath text → (k : ℕ) → k < length text → 32 < get_or text k 0
 above_space text is k h = let here = All_from_list_all is_path_byte text is.bytes k 0 h in grind (arith, nat_tests)
 
-no_control_at_front : (xs : List ℕ) → (0 < length xs → 32 < get_or xs 0 0) → prefix_len is_c0_control_or_space xs ≡ 0
+pub no_control_at_front : (xs : List ℕ) → (0 < length xs → 32 < get_or xs 0 0) → prefix_len is_c0_control_or_space xs ≡ 0
 no_control_at_front [] first = refl
 no_control_at_front (x ∷ xs) first = let here = first (omega arith) in grind (arith, nat_tests)
 

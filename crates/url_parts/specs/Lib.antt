@@ -4,3 +4,5 @@ pub mod Ranges
 pub mod Codes
 pub mod Paths
 pub mod Spelling
+pub mod Alike
+pub mod Roots

@@ -6,9 +6,10 @@ ghost use Rattle.url.specs.Parts.{Parts, IsValid};
 ghost use Rattle.bridge_io.specs.Answer.{Gives};
 ghost use Rattle.url_parts.specs.Addresses.{is_absolute, is_address_byte, is_web, text_of, accepted, refusal, IsAddress, IsBaseUrl};
 ghost use Rattle.url_parts.specs.Addresses.{folder_of, unless_long, is_tail, without_tail, local_name_of};
-ghost use Rattle.url_parts.specs.Paths.{is_folder_path, is_path_byte, is_plain, is_segment_byte};
+ghost use Rattle.url_parts.specs.Paths.{IsPath, is_folder_path, is_path_byte, is_plain, is_segment_byte};
 ghost use Rattle.bridge_io.specs.Names.{is_name_byte};
 
+use crate::roots::is_rooted;
 use crate::{Address, UrlFault};
 use bridge_io::{Name, NameFault, NoMemory, Text, is_name};
 use std::alloc::Global;
@@ -67,15 +68,15 @@ impl Base {
         Ok(Base::new(alloc, self.resolve(alloc, reference)?)?)
     }
 
-    /// The base for all paths that begin with a prefix that ends in `/`: the rest of each, resolved against it, gives what
-    /// the whole path gives against this base. `None` where the prefix isn't the path of a folder, or where it gives no
-    /// base.
-    #[tactic(auto, using(crate::proofs::Fronts::beneath))]
+    /// The base for all references that begin with a prefix that ends in `/`: the rest of each, resolved against it, gives
+    /// what the whole reference gives against this base. `None` where the prefix isn't the path of a folder, alone or
+    /// behind a `/` or a host with its scheme, or where it gives no base.
+    #[tactic(auto, using(crate::proofs::Fronts::beneath, crate::proofs::Rooted::beneath_root))]
     pub fn beneath(&self, alloc: Global, front: &str) -> Result<Option<Base>, NoMemory>
         ensures { IfOk result (λ deeper. IfSome deeper (IsBeneath self.now front.now)) }
     {
         let _ = self.as_str(); // opens the value, for its invariant
-        if !is_folder_path(front) {
+        if !is_folder_path(front.as_bytes()) && !is_rooted(front) {
             return Ok(None);
         }
         match self.deeper(alloc, front) {
@@ -311,14 +312,20 @@ pub(crate) fn is_absolute(reference: &str) -> bool
 }
 
 /// Whether a text is the path of a folder, in a relative reference.
-fn is_folder_path(text: &str) -> bool
-    ensures { result ≡ is_folder_path text.now }
+pub(crate) fn is_folder_path(bytes: &[u8]) -> bool
+    ensures { result ≡ is_folder_path bytes.now }
 {
-    let bytes = text.as_bytes();
     have_path_bytes(bytes)
         && !bytes.is_empty()
         && bytes[0] != b'/'
         && bytes[bytes.len() - 1] == b'/'
+}
+
+/// Whether a text is a path, in a relative reference.
+pub(crate) fn is_path(bytes: &[u8]) -> bool
+    ensures { result ≡ true → IsPath bytes.now }
+{
+    have_path_bytes(bytes) && !bytes.is_empty() && bytes[0] != b'/'
 }
 
 fn have_path_bytes(bytes: &[u8]) -> bool

@@ -1,6 +1,6 @@
 use Rattle.url_parts.proofs.spelling.Playlist.front.Goals as goal
-use Rattle.std.proofs.Common.{◌≡◌, ◌≤◌, ◌+◌, ◌-◌, ◌++◌, ap, sym, subst, ◌∙◌, arith, length}
-use Rattle.url_parts.specs.Spelling.{PlaylistPlace, ReachesNames, IsInner}
+use Rattle.std.proofs.Common.{◌≡◌, ◌++◌, ap, sym, subst, ◌∙◌, arith, length}
+use Rattle.url_parts.specs.Spelling.{PlaylistPlace, ReachesNames}
 use Rattle.url_parts.proofs.Spellings.{has_bytes, names_spelled, outside_stays}
 
 pub returns-in_default : goal.returns-in_default
