@@ -13,7 +13,7 @@ ghost use Rattle.bridge_playlists.specs.Reload as spec;
 use bridge_courses::{Ending, Verdict};
 use bridge_io::{NoMemory, Store, Text};
 use bridge_jobs::ReloadJob;
-use bridge_report::{Halt, Refusal, file_url, halted, media_at, refused};
+use bridge_report::{Halt, Refusal, file_url, halted, media_at, refused, update_at};
 use hls_media::Media;
 use reload_law::{Unlawful, lawful};
 use std::alloc::Global;
@@ -87,7 +87,7 @@ fn judged<F: Store>(
     ensures verdict { IfOk result (λ told. status_by told.0 ≢ status.Words) }
 {
     let old = media_at(alloc, store, &job.old, &urls.old)?;
-    let new = media_at(alloc, store, &job.new, &urls.new)?;
+    let new = update_at(alloc, store, &job.new, &urls.new, Some(&old))?;
     judgement(alloc, &old, &new).map_err(|_| Halt::Memory)
 }
 

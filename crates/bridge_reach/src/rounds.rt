@@ -15,7 +15,8 @@ use bridge_jobs::{BodyList, FrameFault, FramePos, Round, read_round};
 use bridge_report::{FrameStop, Stop};
 use bridge_steps::Follow;
 use dash_writer::write_live_mpd;
-use hls_media::{Media, read_media, what_is_read_is_bounded};
+use hls_follow::FormerMedias;
+use hls_media::{Media, read_update, what_is_read_is_bounded};
 use hls_presentation::MediaFiles;
 use iso_time::Instant;
 use segment_forms::Form;
@@ -108,7 +109,7 @@ impl LiveHls {
         ensures counts { OnOk result (live.new.accepted ≡ live.old.accepted + 1) }
         ensures kept { spec.IsKept self.now live.new }
     {
-        match round_medias(alloc, self, &round.bodies) {
+        match round_medias(alloc, self, live.follow.formers(), &round.bodies) {
             Ok(medias) => take(live, round.now, &medias),
             Err(stop) => Err(stop),
         }
@@ -136,10 +137,11 @@ fn take(live: &mut LiveRounds, now: Instant, medias: &MediaFiles) -> Result<u64,
     }
 }
 
-/// Reads the playlists of a snapshot, also those of dropped tracks.
+/// Reads the playlists of a snapshot, also those of dropped tracks. They share the texts of URLs with those before.
 pub(crate) fn round_medias(
     alloc: Global,
     hls: &LiveHls,
+    formers: FormerMedias<'_>,
     bodies: &BodyList,
 ) -> Result<MediaFiles, Stop>
     requires { length bodies.now ≡ length hls.now.urls }
@@ -147,11 +149,16 @@ pub(crate) fn round_medias(
     ensures one_each { IfOk result (λ medias. length medias ≡ length hls.now.urls) }
     ensures bounded { IfOk result (All IsBounded) }
 {
-    medias_of(alloc, hls.urls.as_slice(), bodies.as_slice())
+    medias_of(alloc, formers, hls.urls.as_slice(), bodies.as_slice())
 }
 
 /// Reads playlists in order, each with its URL (RFC 8216, 4).
-fn medias_of(alloc: Global, mut urls: &[Base], mut bodies: &[Bytes]) -> Result<MediaFiles, Stop>
+fn medias_of(
+    alloc: Global,
+    mut formers: FormerMedias<'_>,
+    mut urls: &[Base],
+    mut bodies: &[Bytes],
+) -> Result<MediaFiles, Stop>
     requires { length bodies.now ≡ length urls.now }
     ensures medias { Gives (λ medias. medias) refused_in result (spec.medias_of urls.entry.now bodies.entry.now) }
     ensures one_each { IfOk result (λ medias. length medias ≡ length urls.entry.now) }
@@ -162,7 +169,7 @@ fn medias_of(alloc: Global, mut urls: &[Base], mut bodies: &[Bytes]) -> Result<M
         urls.split_first(),
         bodies.split_first(),
     ) {
-        medias = medias_with(alloc, medias, url, body.as_slice())?;
+        medias = medias_with(alloc, medias, formers.next(), url, body.as_slice())?;
         (urls, bodies) = (later_urls, later_bodies);
     }
     Ok(medias)
@@ -173,6 +180,7 @@ fn medias_of(alloc: Global, mut urls: &[Base], mut bodies: &[Bytes]) -> Result<M
 fn medias_with(
     alloc: Global,
     medias: MediaFiles,
+    former: Option<&Media>,
     url: &Base,
     body: &[u8],
 ) -> Result<MediaFiles, Stop>
@@ -181,7 +189,7 @@ fn medias_with(
     ensures one_more { IfOk result (λ more. length more ≡ length medias + 1) }
     ensures bounded { IfOk result (All IsBounded) }
 {
-    let media = media_in(alloc, url, body)?;
+    let media = media_in(alloc, former, url, body)?;
     let mut medias = medias;
     match medias.push(media) {
         Ok(()) => Ok(medias),
@@ -190,12 +198,12 @@ fn medias_with(
 }
 
 /// Bytes at a URL as a media playlist.
-fn media_in(alloc: Global, url: &Base, body: &[u8]) -> Result<Media, Stop>
+fn media_in(alloc: Global, former: Option<&Media>, url: &Base, body: &[u8]) -> Result<Media, Stop>
     ensures media { Gives (λ media. media) refused_in result (spec.media_in url.now body.now) }
     ensures bounded { IfOk result IsBounded }
 {
     what_is_read_is_bounded();
-    match read_media(alloc, body, url) {
+    match read_update(alloc, body, url, former) {
         Ok(media) => Ok(media),
         Err(fault) => Err(Stop::of_media(fault)),
     }

@@ -71,7 +71,7 @@ impl Follow for TimedHls {
         store: &mut F,
         _steps: &mut Steps<L>,
     ) -> Result<u64, FrameStop> {
-        match round_medias(alloc, &self.hls, &round.bodies) {
+        match round_medias(alloc, &self.hls, live.follow.formers(), &round.bodies) {
             Ok(medias) => self.take(alloc, live, round.now, &medias, store),
             Err(stop) => Err(FrameStop::of(alloc, stop)),
         }

@@ -23,7 +23,7 @@ pub use laws::{
     one_course_where_files_do_not_matter,
 };
 pub use lines::{frame_accepted, frame_refused, stream_done, tell_line};
-pub use reading::{Halt, content_of, media_at};
+pub use reading::{Halt, content_of, media_at, update_at};
 pub use refusal::{Refusal, Stop, file_refusal_text, refusal_line, refusal_text};
 pub use spot::Spot;
 pub use times_refusal::TimesRefusal;

@@ -7,7 +7,7 @@ ghost use Rattle.bridge_report.specs.Reading as spec;
 
 use crate::refusal::Refusal;
 use bridge_io::{Bytes, Name, NoMemory, Slurp, Store, Text, slurp};
-use hls_media::{Media, MediaFault, read_media, what_is_read_is_bounded};
+use hls_media::{Media, MediaFault, read_update, what_is_read_is_bounded};
 use std::alloc::Global;
 use url_parts::Base;
 
@@ -64,7 +64,6 @@ pub fn content_of<F: Store>(alloc: Global, store: &mut F, file: &Name) -> Result
 }
 
 /// The media playlist of a file with this URL. [`Halt::ReadFault`] comes only where the store's count of failed reads rose.
-#[tactic(auto, unfolding(crate::specs::Reading::media_at))]
 pub fn media_at<F: Store>(
     alloc: Global,
     store: &mut F,
@@ -74,18 +73,39 @@ pub fn media_at<F: Store>(
     ensures reads { spec.ReadsAs F.Store store.old store.new (λ media. media) (spec.media_at file.now url.now) result }
     ensures bounded { IfOk result IsBounded }
 {
+    update_at(alloc, store, file, url, None)
+}
+
+/// The same. It shares the texts of URLs that a former playlist has under the same sequence numbers.
+#[tactic(auto, unfolding(crate::specs::Reading::media_at))]
+pub fn update_at<F: Store>(
+    alloc: Global,
+    store: &mut F,
+    file: &Name,
+    url: &Base,
+    former: Option<&Media>,
+) -> Result<Media, Halt>
+    ensures reads { spec.ReadsAs F.Store store.old store.new (λ media. media) (spec.media_at file.now url.now) result }
+    ensures bounded { IfOk result IsBounded }
+{
     let bytes = content_of(alloc, store, file)?;
-    media_in(alloc, file, url, bytes.as_slice())
+    media_in(alloc, file, url, bytes.as_slice(), former)
 }
 
 /// A file's bytes as a media playlist.
-fn media_in(alloc: Global, file: &Name, url: &Base, bytes: &[u8]) -> Result<Media, Halt>
+fn media_in(
+    alloc: Global,
+    file: &Name,
+    url: &Base,
+    bytes: &[u8],
+    former: Option<&Media>,
+) -> Result<Media, Halt>
     ensures media { Gives (λ media. media) spec.halted result (spec.media_in file.now url.now bytes.now) }
     ensures bounded { IfOk result IsBounded }
     ensures no_fault { spec.IsNoReadFault result }
 {
     what_is_read_is_bounded();
-    match read_media(alloc, bytes, url) {
+    match read_update(alloc, bytes, url, former) {
         Ok(media) => Ok(media),
         Err(MediaFault::Memory) => Err(Halt::Memory),
         Err(fault) => Err(Halt::refused(alloc, file, Refusal::Media(fault))),

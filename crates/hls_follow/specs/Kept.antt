@@ -1,6 +1,6 @@
 -- Which tracks are kept, and their state after the last accepted snapshot.
-use Rattle.std.specs.Prelude.{◌<◌, ◌^◌, Bool, List, [], ◌∷◌, map, All, Option, Some, None, if◌then◌else◌}
-use Rattle.hls_media.specs.Laws.{IsBounded}
+use Rattle.std.specs.Prelude.{◌<◌, ◌^◌, Bool, true, false, List, [], ◌∷◌, map, All, Option, Some, None, if◌then◌else◌}
+use Rattle.hls_media.specs.{Laws.IsBounded, declared.media.Media.Media}
 use Rattle.hls_presentation.specs.Tracks.{Source, is_kept}
 use Rattle.dash_writer.specs.{Live.IsLive, declared.live.LivePeriod.LivePeriod, declared.live.LiveRun.LiveRun}
 use Rattle.hls_follow.specs.{declared.state.Followed.Followed, declared.state.FollowedTrack.FollowedTrack}
@@ -24,6 +24,22 @@ abbrev pub kept_by : List Bool → List Source → List Source
 kept_by [] sources = []
 kept_by (flag ∷ flags) [] = []
 kept_by (flag ∷ flags) (s ∷ sources) = if flag then s ∷ kept_by flags sources else kept_by flags sources
+
+-- the last playlists of tracks that flags keep, and none of the others
+abbrev pub medias_by : List Bool → List FollowedTrack → List (Option Media)
+medias_by [] tracks = []
+medias_by (false ∷ flags) tracks = None ∷ medias_by flags tracks
+medias_by (true ∷ flags) [] = None ∷ medias_by flags []
+medias_by (true ∷ flags) (track ∷ tracks) = Some track.media ∷ medias_by flags tracks
+
+-- the last accepted snapshot's
+abbrev pub medias_of : Option Followed → List (Option Media)
+medias_of None = []
+medias_of (Some former) = medias_by former.kept former.tracks
+
+abbrev pub first_media : List (Option Media) → Option Media
+first_media [] = None
+first_media (media ∷ medias) = media
 
 -- their playlists are bounded as those that were read
 abbrev pub AreBounded : List Source → Type 0

@@ -62,10 +62,13 @@ abbrev pub followed_track : Source → (times : List ℕ) → FollowedTrack
 followed_track s times = record { media = s.media; times = times }
 
 -- each kept track's playlist with its times
+abbrev pub tracks_with : List Source → (times : List (List ℕ)) → List FollowedTrack
+tracks_with [] all = []
+tracks_with (s ∷ kept) [] = []
+tracks_with (s ∷ kept) (times ∷ all) = followed_track s times ∷ tracks_with kept all
+
 abbrev pub followed_tracks : List Source → List (List TimedSegment) → List FollowedTrack
-followed_tracks [] all = []
-followed_tracks (s ∷ kept) [] = []
-followed_tracks (s ∷ kept) (timed ∷ all) = followed_track s (times_in timed) ∷ followed_tracks kept all
+followed_tracks kept timed = tracks_with kept (map times_in timed)
 
 abbrev pub followed_with : List Bool → List Source → List (List TimedSegment) → LiveMpd → Followed
 followed_with flags kept timed mpd = record { kept = flags; tracks = followed_tracks kept timed; mpd = mpd }

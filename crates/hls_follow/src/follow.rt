@@ -9,8 +9,10 @@ ghost use Rattle.bridge_io.specs.Fault.{HasCause};
 ghost use Rattle.hls_follow.specs.Faults.{told};
 ghost use Rattle.hls_follow.specs.OwnTimes.{timed_told, unread};
 ghost use Rattle.hls_follow.specs.TimedRounds.{next_timed};
+ghost use Rattle.hls_follow.specs.Kept.{medias_of};
 ghost use Rattle.hls_follow.specs.Rounds as spec;
 
+use crate::formers::FormerMedias;
 use crate::round::{Round, follow_round};
 use crate::state::Followed;
 use crate::timed_round::time_round;
@@ -134,6 +136,18 @@ impl Follow {
         )?;
         self.followed = Some(followed);
         Ok(Appended(appended))
+    }
+
+    /// The playlists of the last accepted snapshot, by the master's tracks. It allocates nothing.
+    pub fn formers(&self) -> FormerMedias<'_>
+        ensures { result ≡ medias_of self.now.followed }
+    {
+        match &self.followed {
+            Some(followed) => {
+                FormerMedias::of(followed.kept.as_slice(), followed.tracks.as_slice())
+            }
+            None => FormerMedias::of(&[], &[]),
+        }
     }
 
     /// The MPD after the last accepted snapshot. It allocates nothing.

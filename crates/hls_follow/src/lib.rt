@@ -2,6 +2,7 @@
 #![tactic(auto)]
 
 mod follow;
+mod formers;
 mod groups;
 mod kept;
 mod laws;
@@ -21,6 +22,7 @@ mod timed_round;
 mod times;
 
 pub use follow::{Appended, Follow};
+pub use formers::FormerMedias;
 pub use laws::{
     last_playlists_are_listed, numbers_keep_their_times, runs_go_on, sections_keep_their_starts,
     segments_stay, starts_stay, starts_stay_over_rounds, times_are_contiguous,

@@ -8,7 +8,9 @@ ghost use Rattle.hls_media.specs.Laws.{IsBounded};
 ghost use Rattle.hls_presentation.specs.Views.{source_of};
 ghost use Rattle.hls_presentation.specs.Tracks.{sources};
 ghost use Rattle.hls_follow.specs.Faults.{told};
-ghost use Rattle.hls_follow.specs.Kept.{AreBounded, IsEarly, IsSound, formers_of};
+ghost use Rattle.hls_follow.specs.Kept.{AreBounded, HasScales, IsEarly, IsSound, formers_of, periods_of as former_periods};
+ghost use Rattle.hls_follow.specs.Groups.{groups_of};
+ghost use Rattle.hls_follow.specs.Periods as periods;
 ghost use Rattle.hls_follow.specs.Rules.{appended_from, count_of};
 ghost use Rattle.hls_follow.specs.Rounds as spec;
 
@@ -18,14 +20,17 @@ use crate::kept::{flags_of, formers_of, kept_by, periods_of as former_periods};
 use crate::periods::{last_end, periods_of};
 use crate::rules::{SectionList, appended_by, check_count, check_now, check_tracks, check_updates};
 use crate::state::{Followed, FollowedList, FollowedTrack, KeptList, TimeList, TimedList};
-use crate::times::time_all;
-use bridge_io::NoMemory;
+use crate::times::{TimedTracks, time_all};
+use bridge_io::{NoMemory, Sequence};
 use dash_writer::{LiveMpd, LivePeriodList};
 use hls_master::MasterTrack;
 use hls_media::Media;
 use hls_presentation::{Source, sources_of, tracks_of};
 use iso_time::Instant;
 use std::alloc::Global;
+
+/// The times of the segments of tracks.
+type TimeLists = Sequence<TimeList>;
 
 /// The result of an accepted snapshot.
 #[derive(Drop)]
@@ -119,16 +124,33 @@ fn place(
         (spec.placed_of (option_copied former.entry) now flags (map source_of kept.now) sections.now) }
 {
     let timed = time_all(alloc, formers_of(former), kept)?;
-    let groups = groups_of_all(alloc, timed.as_slice())?;
-    let periods = periods_of(alloc, former_periods(former), &groups, sections)?;
+    let times = times_of_all(alloc, timed.as_slice())?;
+    let periods = periods_with(alloc, former, timed, sections)?;
     let end = last_end(periods.as_slice());
     let mpd = mpd_of(alloc, former, now, end, kept, periods)?;
-    let tracks = followed_tracks(alloc, kept, timed.as_slice())?;
+    let tracks = followed_tracks(alloc, kept, times)?;
     Ok(Followed {
         kept: flags,
         tracks,
         mpd,
     })
+}
+
+/// The Periods of the tracks' segments, which aren't needed any more.
+fn periods_with(
+    alloc: Global,
+    former: Option<&Followed>,
+    timed: TimedTracks,
+    sections: &[u64],
+) -> Result<LivePeriodList, LiveFault>
+    ensures periods { Gives (λ periods. periods) told result
+        (periods.periods_from (former_periods (option_copied former.entry)) (map groups_of timed)
+        (periods.last_end (former_periods (option_copied former.entry))) 0 sections.now) }
+    ensures filled { IfOk result (All (λ p. length p.runs ≡ length timed)) }
+    ensures scaled { IfOk result (All HasScales) }
+{
+    let groups = groups_of_all(alloc, timed.as_slice())?;
+    periods_of(alloc, former_periods(former), &groups, sections)
 }
 
 /// The MPD of these Periods. What a first snapshot lists is available `end` nanoseconds after the presentation begins.
@@ -215,20 +237,19 @@ fn are_ended(kept: &[Source<'_>]) -> bool
 fn followed_tracks(
     alloc: Global,
     kept: &[Source<'_>],
-    mut timed: &[TimedList],
+    times: TimeLists,
 ) -> Result<FollowedList, NoMemory>
     requires { AreBounded (map source_of kept.now) }
     ensures early { IfOk result (λ tracks. All IsEarly tracks) }
-    ensures tracks { IfOk result (λ tracks. tracks ≡ spec.followed_tracks (map source_of kept.now) timed.entry.now) }
+    ensures tracks { IfOk result (λ tracks. tracks ≡ spec.tracks_with (map source_of kept.now) times) }
 {
     let mut tracks = FollowedList::new(alloc);
+    let mut rest = times.into_vec().into_iter();
     for source in kept {
-        let Some((first, later)) = timed.split_first() else {
+        let Some(own) = rest.next() else {
             return Ok(tracks);
         };
-        let times = times_of(alloc, first)?;
-        tracks.push(followed_track(alloc, source, times)?)?;
-        timed = later;
+        tracks.push(followed_track(alloc, source, own)?)?;
     }
     Ok(tracks)
 }
@@ -243,6 +264,17 @@ pub(crate) fn followed_track(
 {
     let media = source.media.copy(alloc)?;
     Ok(FollowedTrack { media, times })
+}
+
+/// The times of the segments of each track.
+fn times_of_all(alloc: Global, tracks: &[TimedList]) -> Result<TimeLists, NoMemory>
+    ensures { IfOk result (λ times. times ≡ map spec.times_in tracks.now) }
+{
+    let mut all = TimeLists::new(alloc);
+    for timed in tracks {
+        all.push(times_of(alloc, timed)?)?;
+    }
+    Ok(all)
 }
 
 fn times_of(alloc: Global, timed: &TimedList) -> Result<TimeList, NoMemory>

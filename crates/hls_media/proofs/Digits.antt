@@ -1,5 +1,5 @@
 -- Numbers of few digits, and of too many.
-use Rattle.std.proofs.Common.{◌≡◌, ℕ, ◌-◌, ◌^◌, ◌<◌, ◌≤◌, true, List, length, nat_lt, refl, arith, Result, Ok, Err, None, Some}
+use Rattle.std.proofs.Common.{◌≡◌, ℕ, ◌^◌, ◌<◌, ◌≤◌, true, List, length, nat_lt, refl, arith, Result, Ok, Err, None, Some}
 use Rattle.std.proofs.{lemmas.Bool.Decides.nat_tests, lemmas.Bool.and_parts, lemmas.Str.Parse.{IsNumeralModel, parse_digits}}
 use Rattle.std.proofs.{lemmas.Str.Parse.{numerals_by_value, tells_all_ascii_digits}, Math.Nat.pow-le-pow_right}
 use Rattle.std.specs.{Result.result_ok, Str.all_ascii_digits, Str.Parse.{ParsesUnsigned, digits_value}}

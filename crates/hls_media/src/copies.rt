@@ -38,7 +38,7 @@ impl MediaSegment {
     }
 }
 
-fn copy_of_map(alloc: Global, map: &Option<Part>) -> Result<Option<Part>, NoMemory>
+pub(crate) fn copy_of_map(alloc: Global, map: &Option<Part>) -> Result<Option<Part>, NoMemory>
     ensures { IfOk result (λ copy. copy ≡ map.now) }
 {
     match map {

@@ -6,6 +6,7 @@ mod fault;
 mod laws;
 mod media;
 mod reader;
+mod shared;
 mod state;
 mod tag;
 mod value;
@@ -15,4 +16,4 @@ pub use laws::{
     playlists_are_told_by_their_lines, segments_are_told_by_the_lines_before,
     what_is_read_is_bounded, what_is_read_is_meant,
 };
-pub use media::{Media, MediaList, MediaSegment, read_media};
+pub use media::{Media, MediaList, MediaSegment, read_media, read_update};

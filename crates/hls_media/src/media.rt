@@ -52,12 +52,27 @@ pub struct MediaSegment {
 }
 
 /// Reads a media playlist, whose URIs are resolved against the base (RFC 8216 4.1).
-#[tactic(auto, unfolding(crate::specs::Media::media_of))]
+///
+/// Segments share the texts of maps with the same reference, and of the URL of the segment before, if it is the same.
 pub fn read_media(alloc: Global, bytes: &[u8], base: &Base) -> Result<Media, MediaFault>
     ensures { Gives (λ media. media) refusal result (media_of bytes.now base.now) }
 {
+    read_update(alloc, bytes, base, None)
+}
+
+/// Reads a media playlist as [`read_media`] does. Segments share the texts of URLs that the former playlist has under
+/// the same sequence numbers (RFC 8216 6.2.1).
+#[tactic(auto, unfolding(crate::specs::Media::media_of))]
+pub fn read_update(
+    alloc: Global,
+    bytes: &[u8],
+    base: &Base,
+    former: Option<&Media>,
+) -> Result<Media, MediaFault>
+    ensures { Gives (λ media. media) refusal result (media_of bytes.now base.now) }
+{
     let lines = lines_of(bytes)?;
-    media_in(alloc, lines, bytes, base)
+    media_in(alloc, lines, bytes, base, former)
 }
 
 fn lines_of(bytes: &[u8]) -> Result<Lines<'_>, MediaFault>
@@ -80,10 +95,16 @@ fn end_of(bytes: &[u8]) -> Place
 }
 
 /// The playlist of these lines of a file, or its first fault.
-fn media_in(alloc: Global, lines: Lines<'_>, bytes: &[u8], base: &Base) -> Result<Media, MediaFault>
+fn media_in<'a>(
+    alloc: Global,
+    lines: Lines<'a>,
+    bytes: &[u8],
+    base: &Base,
+    former: Option<&'a Media>,
+) -> Result<Media, MediaFault>
     ensures { Gives (λ media. media) refusal result (media_in (place_of bytes.now (length bytes.now)) base.now lines.entry) }
 {
-    let reader = read_lines(alloc, lines.copy(), base)?;
+    let reader = read_lines(alloc, lines.copy(), base, former)?;
     let Some(target) = reader.target else {
         return Err(MediaFault::NoTarget(end_of(bytes)));
     };

@@ -8,13 +8,16 @@ ghost use Rattle.hls_media.specs.Media.{target_of, early_number_of, length_of, k
 ghost use Rattle.hls_media.specs.Media.{attributes_or_fault, map_of, map_range_of, end_within, former_end, segment_range, segment_of};
 ghost use Rattle.hls_media.specs.Media.{fault_in, refusal, after_tag, tag_fault, after_uri, after_all, line_faults, media_at};
 ghost use Rattle.hls_media.specs.States.{nothing};
+ghost use Rattle.hls_media.specs.declared.tag.Tag.TheVariants.{Map};
 ghost use Rattle.hls_media.specs.Views.{state_of, Does};
 
-use crate::state::{Reader, WrittenRange};
+use crate::copies::copy_of_map;
+use crate::shared::{MapTexts, shared, shared_part};
+use crate::state::{Reader, WrittenMap, WrittenRange};
 use crate::tag::{Tag, tag_of};
 use crate::value::{is_range, read_duration, read_number, read_range};
 use crate::{Media, MediaFault, MediaList, MediaSegment};
-use bridge_io::Place;
+use bridge_io::{NoMemory, Place};
 use exact_time::Nanos;
 use hls_lines::{Attributes, Line, LineFault, Lines, read_attributes};
 use std::alloc::Global;
@@ -34,7 +37,11 @@ const LONGEST: u128 = 1_000_000_000_000_000;
 
 impl<'a> Reader<'a> {
     /// The state before the first line, with room for some segments.
-    fn new(alloc: Global, segments: usize) -> Result<Reader<'a>, MediaFault>
+    fn new(
+        alloc: Global,
+        segments: usize,
+        former: Option<&'a Media>,
+    ) -> Result<Reader<'a>, MediaFault>
         ensures ok { IfOk result (λ reader. state_of reader ≡ nothing) }
         ensures fault { IfErr result (λ fault. refusal fault ≡ None) }
     {
@@ -52,6 +59,9 @@ impl<'a> Reader<'a> {
             map: None,
             segments,
             resolver: Resolver::new(),
+            new_map: None,
+            maps: MapTexts::new(alloc),
+            former,
         })
     }
 
@@ -121,7 +131,7 @@ impl<'a> Reader<'a> {
             Tag::Duration => self.duration = Some(self.length_of(rest, place, uri_follows)?),
             Tag::ByteRange => self.range = Some(written_range_of(rest, place, uri_follows)?),
             Tag::Discontinuity => self.discontinuities += 1,
-            Tag::Map => self.map = Some(map_of(alloc, &mut self.resolver, base, rest, place)?),
+            Tag::Map => self.read_map(alloc, base, rest, place)?,
             Tag::EndList => self.ended = true,
             Tag::Key => check_key(alloc, rest, place)?,
             Tag::SessionKey => return Err(MediaFault::Encryption(place)),
@@ -131,6 +141,22 @@ impl<'a> Reader<'a> {
             Tag::Master => return Err(MediaFault::Misplaced(place)),
             Tag::Other => {}
         }
+        Ok(())
+    }
+
+    fn read_map(
+        &mut self,
+        alloc: Global,
+        base: &Base,
+        rest: &'a str,
+        place: Place,
+    ) -> Result<(), MediaFault>
+        ensures { Does (fault_in (map_of base.now rest.now place))
+            (after_tag base.now (state_of self.old) Map rest.now place) result (state_of self.new) }
+    {
+        let map = map_of(alloc, &mut self.resolver, base, rest, place)?;
+        self.map = Some(map.part);
+        self.new_map = Some(map.reference);
         Ok(())
     }
 
@@ -174,9 +200,10 @@ impl<'a> Reader<'a> {
             return Err(MediaFault::Limit(place));
         }
         let address = join(alloc, &mut self.resolver, base, text, place)?;
+        let address = self.shared_address(alloc, address)?;
         let range = self.segment_range(&address)?;
-        let map = copy_of(alloc, &self.map)?;
         let section = self.first_section.unwrap_or(0) + self.discontinuities;
+        let map = self.next_map(alloc)?;
         Ok(MediaSegment {
             address,
             range,
@@ -184,6 +211,62 @@ impl<'a> Reader<'a> {
             duration,
             section,
         })
+    }
+
+    /// The segment of the former playlist that has the next segment's number.
+    fn former_segment(&self) -> Option<&'a MediaSegment> {
+        let former = self.former?;
+        let number = self
+            .sequence
+            .unwrap_or(0)
+            .checked_add(self.segments.len() as u64)?;
+        let index = number.checked_sub(former.sequence)?;
+        former.segments.as_slice().get(index as usize)
+    }
+
+    /// The same URL of the next segment. It shares the text of the segment before or of the former one, if that is equal.
+    fn shared_address(&self, alloc: Global, address: Address) -> Result<Address, NoMemory>
+        ensures { IfOk result (λ shared. shared ≡ address) }
+    {
+        let mut address = address;
+        if let Some(former) = self.former_segment() {
+            address = shared(alloc, address, &former.address)?;
+        }
+        if let Some(before) = self.segments.last() {
+            address = shared(alloc, address, &before.address)?;
+        }
+        Ok(address)
+    }
+
+    /// The map of the next segment.
+    fn next_map(&mut self, alloc: Global) -> Result<Option<Part>, NoMemory>
+        ensures map { IfOk result (λ map. map ≡ self.old.map) }
+        ensures state { state_of self.new ≡ state_of self.old }
+    {
+        let Some(reference) = self.new_map else {
+            return copy_of_map(alloc, &self.map);
+        };
+        let Some(map) = copy_of_map(alloc, &self.map)? else {
+            return Ok(None);
+        };
+        let map = self.shared_map(alloc, reference, map)?;
+        self.map = Some(map.copy(alloc)?);
+        self.new_map = None;
+        Ok(Some(map))
+    }
+
+    /// The same map of the next segment. It shares the text of the former segment's or of an earlier one with the same
+    /// reference, if that is equal.
+    fn shared_map(&mut self, alloc: Global, reference: &'a str, map: Part) -> Result<Part, NoMemory>
+        ensures map { IfOk result (λ shared. shared ≡ map) }
+        ensures state { state_of self.new ≡ state_of self.old }
+    {
+        let Part { address, range } = match self.former_segment() {
+            Some(former) => shared_part(alloc, map, &former.map)?,
+            None => map,
+        };
+        let address = self.maps.shared(alloc, reference, address)?;
+        Ok(Part { address, range })
     }
 
     fn read_uri(
@@ -265,20 +348,21 @@ fn attributes_of<'a>(
 
 /// The init segment of an EXT-X-MAP.
 #[tactic(auto, unfolding(crate::specs::Media::map_of))]
-fn map_of(
+fn map_of<'a>(
     alloc: Global,
     resolver: &mut Resolver,
     base: &Base,
-    rest: &str,
+    rest: &'a str,
     place: Place,
-) -> Result<Part, MediaFault>
-    ensures { Gives (λ part. part) refusal result (map_of base.now rest.now place) }
+) -> Result<WrittenMap<'a>, MediaFault>
+    ensures { Gives (λ map. map.part) refusal result (map_of base.now rest.now place) }
 {
     let attributes = attributes_of(alloc, rest, place)?;
     let reference = attributes.get("URI").ok_or(MediaFault::Value(place))?;
     let range = map_range_of(attributes.get("BYTERANGE"), place)?;
     let address = join(alloc, resolver, base, reference, place)?;
-    Ok(Part { address, range })
+    let part = Part { address, range };
+    Ok(WrittenMap { part, reference })
 }
 
 fn map_range_of(text: Option<&str>, place: Place) -> Result<Option<Range>, MediaFault>
@@ -304,16 +388,6 @@ fn check_key(alloc: Global, rest: &str, place: Place) -> Result<(), MediaFault>
     Ok(())
 }
 
-fn copy_of(alloc: Global, part: &Option<Part>) -> Result<Option<Part>, MediaFault>
-    ensures ok { IfOk result (λ copy. copy ≡ part.now) }
-    ensures fault { IfErr result (λ fault. refusal fault ≡ None) }
-{
-    match part {
-        Some(part) => Ok(Some(part.copy(alloc)?)),
-        None => Ok(None),
-    }
-}
-
 impl Reader<'_> {
     /// The playlist, once all lines were read.
     pub(crate) fn finish(self, target: u64) -> Media
@@ -334,6 +408,7 @@ pub(crate) fn read_lines<'a>(
     alloc: Global,
     lines: Lines<'a>,
     base: &Base,
+    former: Option<&'a Media>,
 ) -> Result<Reader<'a>, MediaFault>
     ensures ok { IfOk result (λ reader. (line_faults base.now nothing lines.entry ≡ [])
         × (state_of reader ≡ after_all base.now nothing lines.entry)) }
@@ -342,7 +417,7 @@ pub(crate) fn read_lines<'a>(
 {
     let mut lines = lines;
     let mut uris = lines.count_uris();
-    let mut reader = Reader::new(alloc, uris)?;
+    let mut reader = Reader::new(alloc, uris, former)?;
     while let Some(line) = lines.next() {
         match line {
             Line::Tag { name, rest, place } => reader.read_tag(

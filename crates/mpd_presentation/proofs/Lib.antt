@@ -8,5 +8,6 @@ pub mod MeantContents
 pub mod Ordered
 pub mod OwnAddress
 pub mod Pace
+pub mod Parting
 pub mod Static
 pub mod Telling

@@ -2,6 +2,7 @@ pub mod Listable
 pub mod MeaningLaws
 pub mod Meanings
 pub mod Origins
+pub mod Parted
 pub mod PresentedLaws
 pub mod Rows
 pub mod Scales

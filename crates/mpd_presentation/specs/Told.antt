@@ -182,15 +182,19 @@ following_of facts now = if facts.live
     })
     else None
 
-abbrev pub presented_with : TypedMpd (Option Segments) → (now : Option ℤ) → List PeriodContent → Presented
-presented_with mpd now tolds = record {
+abbrev pub presented_from : TypedMpd (Option Segments) → (now : Option ℤ) → List Content → List Place → Presented
+presented_from mpd now contents places = record {
   tracks = map track_of (in_order (first_rows mpd.periods));
   sections = map section_of mpd.periods;
-  contents = map (λ (told : PeriodContent). told.content) tolds;
+  contents = contents;
   left_out = mpd.left_out;
   following = following_of mpd.facts now;
-  places = map (λ (told : PeriodContent). told.place) tolds;
+  places = places;
 }
+
+abbrev pub presented_with : TypedMpd (Option Segments) → (now : Option ℤ) → List PeriodContent → Presented
+presented_with mpd now tolds =
+    presented_from mpd now (map (λ (told : PeriodContent). told.content) tolds) (map (λ (told : PeriodContent). told.place) tolds)
 
 -- the presentation of all Representations, or the first error of one of them
 abbrev pub presented_if_told : TypedMpd (Option Segments) → (url : List ℕ) → (now : Option ℤ) → Result Presented PresentationFault

@@ -5,6 +5,7 @@ ghost use Rattle.mpd_rules.specs.Views.{bases_left};
 ghost use Rattle.template_ids.specs.Templates.{template_of, refusal as template_refusal};
 ghost use Rattle.url_parts.specs.Addresses.{chain, resolve, refusal as url_refusal};
 
+use crate::initializations::Initializations;
 use bridge_io::{NoMemory, Text};
 use mpd_rules::BaseWalk;
 use std::alloc::Global;
@@ -19,7 +20,7 @@ pub(crate) struct Former {
     init: Option<Template>,
     /// The results of its BaseURLs, from the MPD down.
     steps: Vec<Step>,
-    initialization: Option<Resolved>,
+    initializations: Initializations,
 }
 
 /// The base that a BaseURL gave.
@@ -31,15 +32,6 @@ struct Step {
     ghost gives: { resolve from reference ≡ Ok to },
 }
 
-/// The URL that a reference gave.
-#[derive(Drop)]
-struct Resolved {
-    from: Base,
-    reference: Text,
-    to: Address,
-    ghost gives: { resolve from reference ≡ Ok to },
-}
-
 impl Former {
     /// The empty cache.
     pub(crate) fn none(alloc: Global) -> Former {
@@ -47,8 +39,13 @@ impl Former {
             media: None,
             init: None,
             steps: Vec::new(alloc),
-            initialization: None,
+            initializations: Initializations::none(alloc),
         }
+    }
+
+    /// Begins a Period.
+    pub(crate) fn begin_period(&mut self) {
+        self.initializations.begin_period();
     }
 
     /// The template of the segment URLs.
@@ -98,10 +95,7 @@ impl Former {
     ) -> Result<Address, UrlFault>
         ensures { Gives (λ address. address) url_refusal result (resolve base.now reference.now) }
     {
-        let resolved = Resolved::of(alloc, self.initialization.take(), base, reference)?;
-        let address = resolved.to.copy(alloc)?;
-        self.initialization = Some(resolved);
-        Ok(address)
+        self.initializations.address(alloc, base, reference)
     }
 }
 
@@ -123,31 +117,6 @@ impl Step {
         let from = from.copy(alloc)?;
         let reference = Text::copy_of(alloc, reference)?;
         Ok(Step {
-            from,
-            reference,
-            to,
-        })
-    }
-}
-
-impl Resolved {
-    fn of(
-        alloc: Global,
-        former: Option<Resolved>,
-        from: &Base,
-        reference: &str,
-    ) -> Result<Resolved, UrlFault>
-        ensures { Gives (λ resolved. resolved.to) url_refusal result (resolve from.now reference.now) }
-    {
-        if let Some(resolved) = former {
-            if resolved.from.as_str() == from.as_str() && resolved.reference.as_str() == reference {
-                return Ok(resolved);
-            }
-        }
-        let to = from.join(alloc, reference)?;
-        let from = from.copy(alloc)?;
-        let reference = Text::copy_of(alloc, reference)?;
-        Ok(Resolved {
             from,
             reference,
             to,

@@ -4,6 +4,7 @@
 mod checks;
 mod described;
 mod former;
+mod initializations;
 mod laws;
 mod lineup;
 mod manifest;

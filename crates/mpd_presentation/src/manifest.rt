@@ -1,9 +1,12 @@
 // The presentation of an MPD.
-ghost use Rattle.std.specs.Prelude.{◌≡◌, ◌++◌, ◌*◌, [], false, All, IfOk, List, OnOk, is_some, length, map, option_map, None};
+ghost use Rattle.std.specs.Prelude.{◌≡◌, ◌++◌, ◌∷◌, ◌*◌, [], false, All, IfOk, IfSome, List, MatchResult, OnOk, is_some, length};
+ghost use Rattle.std.specs.Prelude.{map, option_map, Err, None};
 ghost use Rattle.bridge_io.specs.Answer.{Gives, gathered};
 ghost use Rattle.mpd_rules.specs.Views.{period_in, periods_left, segments_mpd, track_in, tracks_left};
 ghost use Rattle.presentation.specs.Counting.{refusal};
 ghost use Rattle.presentation.specs.Presented.{following_of as kept_following, IsEnded};
+ghost use Rattle.mpd_presentation.specs.declared.told.PeriodContent.{PeriodContent};
+ghost use Rattle.mpd_presentation.specs.Parted.{AreAdded, ArePartsOf, IsParted};
 ghost use Rattle.mpd_presentation.specs.Rows.{all_left, first_rows, in_order, period_of, row_of, rows_left, section_of};
 ghost use Rattle.mpd_presentation.specs.Shared.{AreOf, AreOfAll};
 ghost use Rattle.mpd_presentation.specs.Told as spec;
@@ -61,7 +64,7 @@ fn present_checked(
         live: mpd.live(),
     };
     match setting.all_told(alloc, mpd.periods()) {
-        Ok(tolds) => Ok(present(alloc, mpd, now, tolds)?),
+        Ok(parted) => Ok(present(alloc, mpd, now, parted)?),
         Err(fault) => Err(fault),
     }
 }
@@ -71,16 +74,16 @@ fn present(
     alloc: Global,
     mpd: &Mpd,
     now: Option<Instant>,
-    tolds: Vec<PeriodContent>,
+    parted: Parted,
 ) -> Result<Presentation, NoMemory>
-    requires filled { length tolds.items ≡ length mpd.now.values.periods * length (first_rows (segments_mpd mpd.now).periods) }
-    requires ended { mpd.now.values.facts.live ≡ false → All IsEnded (map (λ told. told.content) tolds.items) }
-    ensures { IfOk result (λ presentation. presentation ≡ spec.presented_with (segments_mpd mpd.now) now tolds.items) }
+    requires filled { length parted.contents ≡ length mpd.now.values.periods * length (first_rows (segments_mpd mpd.now).periods) }
+    requires ended { mpd.now.values.facts.live ≡ false → All IsEnded parted.contents }
+    ensures { IfOk result (λ presentation. presentation ≡
+        spec.presented_from (segments_mpd mpd.now) now parted.contents parted.places.items) }
 {
     let rows = first_in_order(alloc, mpd.periods())?;
     let tracks = tracks_of(alloc, &rows)?;
     let sections = sections_of(alloc, mpd.periods())?;
-    let parted = part_all(alloc, tolds)?;
     let parts = Parts {
         tracks,
         sections,
@@ -123,17 +126,24 @@ struct Parted {
     places: Vec<Place>,
 }
 
-fn part_all(alloc: Global, tolds: Vec<PeriodContent>) -> Result<Parted, NoMemory>
-    ensures contents { IfOk result (λ parted. parted.contents ≡ map (λ told. told.content) tolds.items) }
-    ensures places { IfOk result (λ parted. parted.places.items ≡ map (λ told. told.place) tolds.items) }
-{
-    let mut contents = ContentList::new(alloc);
-    let mut places = Vec::new(alloc);
-    for told in tolds {
-        contents.push(told.content)?;
-        places.push(told.place)?;
+impl Parted {
+    fn none(alloc: Global) -> Parted
+        ensures { IsParted [] result }
+    {
+        Parted {
+            contents: ContentList::new(alloc),
+            places: Vec::new(alloc),
+        }
     }
-    Ok(Parted { contents, places })
+
+    fn add(&mut self, told: PeriodContent) -> Result<(), NoMemory>
+        ensures contents { OnOk result (self.new.contents ≡ self.old.contents ++ told.content ∷ []) }
+        ensures places { OnOk result (self.new.places.items ≡ self.old.places.items ++ told.place ∷ []) }
+    {
+        self.contents.push(told.content)?;
+        self.places.push(told.place)?;
+        Ok(())
+    }
 }
 
 impl Setting<'_> {
@@ -142,19 +152,21 @@ impl Setting<'_> {
         &self,
         alloc: Global,
         periods: PeriodWalk<'_, SegmentRow>,
-    ) -> Result<Vec<PeriodContent>, PresentationFault>
+    ) -> Result<Parted, PresentationFault>
         requires { AreOfAll self.now.shared.now (periods_left periods) }
-        ensures { Gives (λ tolds. tolds.items) refusal result (spec.all_told self.now.base.now self.now.live (all_left periods.entry)) }
+        ensures { let all = spec.all_told self.now.base.now self.now.live (all_left periods.entry) in
+            MatchResult result (ArePartsOf all) (λ fault. IfSome (refusal fault) (λ f. all ≡ Err f)) }
     {
-        let mut tolds = Vec::new(alloc);
+        let mut parted = Parted::none(alloc);
         let mut former = Former::none(alloc);
         for period in periods {
+            former.begin_period();
             match self.period_told(alloc, &period, &mut former) {
-                Ok(told) => told.add_to(&mut tolds)?,
+                Ok(told) => told.add_to(&mut parted)?,
                 Err(fault) => return Err(fault),
             }
         }
-        Ok(tolds)
+        Ok(parted)
     }
 
     fn period_told(
@@ -204,12 +216,12 @@ struct ByKind {
 
 impl ByKind {
     /// Adds them after others in the order of the tracks.
-    fn add_to(self, tolds: &mut Vec<PeriodContent>) -> Result<(), NoMemory>
-        ensures { OnOk result (tolds.new.items ≡ tolds.old.items ++ (self.video.items ++ (self.audio.items ++ self.text.items))) }
+    fn add_to(self, parted: &mut Parted) -> Result<(), NoMemory>
+        ensures { OnOk result (AreAdded parted.old (self.video.items ++ (self.audio.items ++ self.text.items)) parted.new) }
     {
-        add_all(tolds, self.video)?;
-        add_all(tolds, self.audio)?;
-        add_all(tolds, self.text)
+        add_all(parted, self.video)?;
+        add_all(parted, self.audio)?;
+        add_all(parted, self.text)
     }
 }
 
@@ -229,11 +241,11 @@ fn by_kind(alloc: Global, tolds: Vec<PeriodContent>) -> Result<ByKind, NoMemory>
     Ok(ByKind { video, audio, text })
 }
 
-fn add_all(tolds: &mut Vec<PeriodContent>, more: Vec<PeriodContent>) -> Result<(), NoMemory>
-    ensures { OnOk result (tolds.new.items ≡ tolds.old.items ++ more.items) }
+fn add_all(parted: &mut Parted, more: Vec<PeriodContent>) -> Result<(), NoMemory>
+    ensures { OnOk result (AreAdded parted.old more.items parted.new) }
 {
     for told in more {
-        tolds.push(told)?;
+        parted.add(told)?;
     }
     Ok(())
 }

@@ -1,5 +1,6 @@
 // The contents of Representations in their Periods.
-ghost use Rattle.std.specs.Prelude.{◌≡◌, [], IfOk, option_map, unwrap_or};
+ghost use Rattle.std.specs.Prelude.{◌≡◌, [], ◌<◌, true, IfOk, length, option_map, unwrap_or};
+ghost use Rattle.std.specs.List.{list_all};
 ghost use Rattle.bridge_io.specs.Answer.{Gives, told_as};
 ghost use Rattle.timeline.specs.Names.{referred};
 ghost use Rattle.timeline.specs.Expansions.{is_open};
@@ -7,7 +8,8 @@ ghost use Rattle.mpd_levels.specs.Shown.{addressed, timelines_in};
 ghost use Rattle.mpd_rules.specs.Views.{track_in, tracks_left, tables_of, period_in};
 ghost use Rattle.presentation.specs.Counting.{refusal};
 ghost use Rattle.template_ids.specs.Templates.{refusal as template_refusal};
-ghost use Rattle.url_parts.specs.Addresses.{refusal as url_refusal};
+ghost use Rattle.url_parts.specs.Addresses.{refusal as url_refusal, resolve};
+ghost use Rattle.url_parts.specs.Paths.{is_segment_byte};
 ghost use Rattle.timeline.specs.Faults.{refusal as time_refusal};
 ghost use Rattle.mpd_presentation.specs.Rows.{row_of, rows_left, period_of};
 ghost use Rattle.mpd_presentation.specs.Scales.{scale_of};
@@ -23,6 +25,9 @@ use std::alloc::Global;
 use template_ids::{Ids, Template, TemplateFault};
 use timeline::{End, Names, RefList, Runs, Scale, SharedNames, TimeFault};
 use url_parts::{Address, Base, Part, UrlFault};
+
+/// The most bytes that a URL has.
+const MAX_URL_LEN: usize = 2048;
 
 /// The content of a Representation in its Period.
 #[derive(Drop)]
@@ -264,12 +269,38 @@ fn init_address(
         (referred base.now (spec.init_reference (row_of row.now).description (addressed told.now) template.now)) }
 {
     match template {
-        Some(template) => {
-            let name = init_name(alloc, row, template)?;
-            former.address(alloc, base, name.as_str())
-        }
+        Some(template) => named_address(alloc, row, template, base, former),
         None => refer(alloc, base, told.init_reference(), former),
     }
+}
+
+/// The URL of an init segment's name against a base.
+fn named_address(
+    alloc: Global,
+    row: &RepView<'_>,
+    template: &Template,
+    base: &Base,
+    former: &mut Former,
+) -> Result<Address, UrlFault>
+    ensures { Gives (λ address. address) url_refusal result
+        (resolve base.now (spec.init_name (row_of row.now).description template.now)) }
+{
+    let _ = base.as_str(); // opens the value, for its invariant
+    if is_too_long(row, template) {
+        return Err(UrlFault::TooLong);
+    }
+    let name = init_name(alloc, row, template)?;
+    former.address(alloc, base, name.as_str())
+}
+
+/// Whether an init segment's name is known to be longer than any URL before it is put together.
+fn is_too_long(row: &RepView<'_>, template: &Template) -> bool
+    ensures { result ≡ true → (let name = spec.init_name (row_of row.now).description template.now in
+        (list_all is_segment_byte name ≡ true) × (2048 < length name)) }
+{
+    let id = row.id();
+    let bandwidth = row.bandwidth();
+    template.least_len(id, bandwidth) > MAX_URL_LEN && template.names_segments(id, bandwidth)
 }
 
 fn init_name(alloc: Global, row: &RepView<'_>, template: &Template) -> Result<Text, NoMemory>

@@ -1,5 +1,6 @@
 use Rattle.hls_follow.proofs.round.followed_tracks.Goals as goal
 use Rattle.std.proofs.{Common.arith, lemmas.Grind.common_steps, lemmas.List.Elements.All-push}
+use Rattle.std.specs.Vec.Iter.{into_iter_items}
 use Rattle.hls_follow.specs.Kept.{IsEarly}
 use Rattle.hls_follow.proofs.{Bounded.bounded_at, Keeping.{followed_none, tracks_turn}}
 
@@ -16,8 +17,8 @@ loop-source-preserved c =
     let early : IsEarly track = rw c.in_ok-followed_track.ensures bounded.sequence in
     record {
       told = rw c.in_ok-push.ensures.ok
-          (tracks_turn kept l.source-index source l.tracks l.timed.now c.in-Some.later.now c.in-Some.first.now track c.in_ok-times.times _
-          c.loop-source-test.true c.source-item.is c.in-Some.ensures.cases.0 c.in_ok-followed_track.ensures c.in_ok-times.ensures
+          (tracks_turn kept l.source-index source l.tracks (into_iter_items l.rest) _ track _ _
+          c.loop-source-test.true c.source-item.is c.in-Some.ensures.cases.0 c.in_ok-followed_track.ensures
           l.invariant.told);
       early = rw c.in_ok-push.ensures.ok (All-push IsEarly l.tracks track l.invariant.early early);
     }

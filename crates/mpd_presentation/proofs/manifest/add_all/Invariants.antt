@@ -1,5 +1,5 @@
 use Rattle.mpd_presentation.proofs.manifest.add_all.Given as goal
-use Rattle.std.proofs.Common.{◌≡◌, ◌++◌}
+use Rattle.mpd_presentation.specs.Parted.{AreAdded}
 
 abbrev pub invariant-loop-told : goal.invariant-loop-told
-invariant-loop-told l = l.tolds.items ≡ l.fn.tolds.items ++ l.yielded
+invariant-loop-told l = AreAdded l.fn.parted l.yielded l.parted

@@ -18,10 +18,10 @@ from_placed-requires-clause-filled c =
     let tracks : length c.in_ok-tracks.tracks ≡ length (first_rows (map (period_with shown) c.args.mpd.now.values.periods)) =
     ap length c.in_ok-tracks.ensures ∙ length-map _ _ ∙ ap (λ rows. length (map row_of rows)) c.deref.ensures.value ∙ rows
     ∙ ap (λ periods. length (first_rows (map (period_with shown) periods))) c.periods.ensures.periods in
-    ap length c.in_ok-parted.ensures.contents ∙ length-map _ _ ∙ c.requires.filled
+    c.requires.filled
     ∙ ap (λ n. n * length (first_rows (map (period_with shown) c.args.mpd.now.values.periods))) (sym sections)
     ∙ ap (λ n. length c.in_ok-sections.sections * n) (sym tracks)
 
 pub from_placed-requires-clause-ended : goal.from_placed-requires-clause-ended
-from_placed-requires-clause-ended c = λ none. rw c.in_ok-parted.ensures.contents
-    (c.requires.ended (not_live _ _ (sym c.following_of.ensures ∙ ap (option_map following_of) none)))
+from_placed-requires-clause-ended c = λ none.
+    c.requires.ended (not_live _ _ (sym c.following_of.ensures ∙ ap (option_map following_of) none))
