@@ -1,5 +1,5 @@
 -- What frames leave of a channel: the session of the history, with what the first accepted MPD says for players.
-use Rattle.std.proofs.Common.{◌≡◌, List, [], ◌∷◌, Option, None, Some, option_map, Result, Ok, Err, refl}
+use Rattle.std.proofs.Common.{◌≡◌, List, ◌∷◌, Option, None, Some, option_map, Result, Ok, Err, refl}
 use Rattle.std.specs.Result.{result_err}
 use Rattle.bridge_jobs.specs.declared.frame.Frame.{Frame}
 use Rattle.live_meaning.specs.{Updates.{Terms, Update}, States.State, Laws.{HistoriesBegin, HistoriesGoOn, HistoriesRefuse}}

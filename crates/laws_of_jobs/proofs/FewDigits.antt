@@ -6,7 +6,8 @@ use Rattle.std.specs.Prelude.{codes}
 use Rattle.clap.specs.Words.{Row, first_of}
 use Rattle.bridge_jobs.specs.declared.{jobs.Job.Job, jobs.FollowJob.FollowJob, verb.Verb.Verb}
 use Rattle.bridge_jobs.specs.Jobs.{◌>>=◌, agree_of, base_of, check_of, digits_of, file_of, first_verb, follow_of, hls_of, index_of, job_by}
-use Rattle.bridge_jobs.specs.{Jobs.{addresses_of, compare_of, form_of, job_of, make_of, master_of, out_of, reload_of, show_of}, Verbs.values_of}
+use Rattle.bridge_jobs.specs.Jobs.{addresses_of, compare_of, form_of, job_of, make_of, master_of, out_of, reload_of, show_of}
+use Rattle.bridge_jobs.specs.Verbs.{values_of}
 use Rattle.bridge_core.proofs.Asked.{few_or_six}
 
 abbrev HasFew : Job → Type 0

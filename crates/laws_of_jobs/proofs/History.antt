@@ -2,7 +2,8 @@
 use Rattle.bridge_report.specs.declared.refusal.Refusal.TheVariants as refusal
 use Rattle.std.proofs.Common.{◌≡◌, ◌+◌, ℕ, ℤ, suc, List, [], ◌∷◌, ◌++◌, length, map, take, drop, Option, Some, None, option_map}
 use Rattle.std.proofs.{Common.{option_and_then, Result, Ok, Err, refl, sym, ap, ◌∙◌, subst, arith, length-append}, lemmas.List.length-map}
-use Rattle.std.proofs.{lemmas.List.Elements.{All-nil, All-cons, All-drop, All-head, All-push, All-tail, All-take, All-weaker}, Math.Seq.take-add}
+use Rattle.std.proofs.{lemmas.List.Elements.{All-nil, All-cons, All-drop, All-head, All-push, All-tail, All-take, All-weaker}}
+use Rattle.std.proofs.Math.Seq.{take-add}
 use Rattle.std.specs.{List.All, Result.{result_err, result_unwrap_or}}
 use Rattle.bridge_io.proofs.AndThen.{steps_of}
 use Rattle.hls_master.specs.declared.track.MasterTrack.{MasterTrack}
@@ -81,7 +82,8 @@ module _ (bounded : ReadIsBounded) where
         ap length (sym same) ∙ length-append medias (a.value ∷ []),
       )
 
-  pub all_more : (urls bodies : List (List ℕ)) (medias more : List Media) → medias_behind medias urls bodies ≡ Ok more → All IsBounded medias
+  pub all_more : (urls bodies : List (List ℕ)) (medias more : List Media) → medias_behind medias urls bodies ≡ Ok more
+      → All IsBounded medias
       → length bodies ≡ length urls → All IsBounded more × (length more ≡ length medias + length urls)
   all_more [] bodies medias more is all each = let same : medias ≡ more = cc in
       (subst (All IsBounded) same all, omega (arith, ap length same))

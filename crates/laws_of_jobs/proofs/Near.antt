@@ -2,7 +2,8 @@
 use Rattle.std.proofs.Common.{◌≡◌, ℕ, zero, suc, ◌+◌, ◌-◌, ◌*◌, ◌/◌, ◌<◌, List, [], ◌∷◌, length, get_or, take, drop, All, Ok, refl, sym, ap}
 use Rattle.std.proofs.{Common.{◌∙◌, mul_assoc, subst, arith}, lemmas.Nat.Gcd.le_of_dvd, lemmas.List.{length-drop, length-take}}
 use Rattle.std.proofs.lemmas.List.Elements.{All-drop, All-take}
-use Rattle.std.proofs.Math.Nat.{add-mul, div-mul_cancel, lt_of_mul-lt-mul_right, mul-le-mul_left, mul-lt-mul_of_pos_right, pos_of_dvd_of_pos}
+use Rattle.std.proofs.Math.Nat.{add-mul, div-mul_cancel, lt_of_mul-lt-mul_right, mul-le-mul_left, mul-lt-mul_of_pos_right}
+use Rattle.std.proofs.Math.Nat.{pos_of_dvd_of_pos}
 use Rattle.std.specs.{Int.◌∣◌}
 use Rattle.bridge_io.specs.Outside.{Files}
 use Rattle.segment_forms.specs.declared.form.Form.{Form, TheVariants.{Plain, Players}}

@@ -1,5 +1,6 @@
 -- The Periods of playlists that are read can be written and read.
-use Rattle.std.proofs.Common.{◌≡◌, ℕ, suc, ◌+◌, ◌<◌, ◌≤◌, ◌^◌, max, unwrap_or, Bool, true, false, leb, List, [], ◌∷◌, map, length, All, Option, Some, None}
+use Rattle.std.proofs.Common.{◌≡◌, ℕ, suc, ◌+◌, ◌<◌, ◌≤◌, ◌^◌, max, unwrap_or, Bool, true, false, leb, List, [], ◌∷◌, map, length, All}
+use Rattle.std.proofs.Common.{Option, Some, None}
 use Rattle.std.proofs.{Common.{Ok, IfOk, IfSome, refl, sym, ◌∙◌, ap, subst, arith}, lemmas.Bool.Decides.nat_tests, lemmas.List.length-map}
 use Rattle.std.proofs.lemmas.List.Elements.{All-head, All-tail, All-nil, All-cons, All-weaker}
 use Rattle.std.specs.List.{AllByRecursion}
@@ -7,7 +8,8 @@ use Rattle.bridge_io.proofs.AndThen.{steps_of}
 use Rattle.url_parts.specs.declared.address.Part.{Part}
 use Rattle.dash_writer.specs.{Live.{first_time, part_of}, declared.live.LivePeriod.LivePeriod, declared.live.LiveRun.LiveRun}
 use Rattle.dash_writer.specs.declared.live.LiveSegment.{LiveSegment}
-use Rattle.hls_follow.specs.{Groups.{group_at, row_at, row_end}, Periods.{end_of, extent_of, initialization_in, known_in, live_segments, nominal_run}}
+use Rattle.hls_follow.specs.Groups.{group_at, row_at, row_end}
+use Rattle.hls_follow.specs.{Periods.{end_of, extent_of, initialization_in, known_in, live_segments, nominal_run}}
 use Rattle.hls_follow.specs.Periods.{period_of, periods_from, run_of, runs_of, within_limit}
 use Rattle.hls_follow.proofs.Listing.{listed_map}
 use Rattle.laws_of_mpds.proofs.ReadPlain.{map_own, range_readable}

@@ -1,6 +1,7 @@
 -- The MPD of a run of `follow-hls` is read as what it says.
 use Rattle.bridge_report.specs.declared.refusal.Refusal.TheVariants as refusal
-use Rattle.std.proofs.Common.{◌≡◌, ◌<◌, ℕ, ℤ, suc, List, [], ◌∷◌, ◌++◌, length, map, take, All, Option, Some, None, Result, Ok, Err, refl, sym}
+use Rattle.std.proofs.Common.{◌≡◌, ◌<◌, ℕ, ℤ, suc, List, [], ◌∷◌, ◌++◌, length, map, take, All, Option, Some, None}
+use Rattle.std.proofs.Common.{Result, Ok, Err, refl, sym}
 use Rattle.std.proofs.{Common.{◌∙◌, subst}, lemmas.List.Elements.{All-cons, All-head, All-map, All-nil, All-push, All-tail, All-take}}
 use Rattle.std.proofs.lemmas.List.Elements.{All-weaker}
 use Rattle.std.specs.Result.{result_ok, result_unwrap_or}
@@ -16,7 +17,8 @@ use Rattle.laws_of_mpds.specs.Written.{HaveAddresses, ReadHaveAddresses, ReadHav
 use Rattle.bridge_io.specs.Outside.{Files}
 use Rattle.bridge_courses.specs.Courses.{Course}
 use Rattle.bridge_jobs.specs.{Frames.start, Jobs.instant_in, declared.jobs.MasterJob.MasterJob, declared.round.Round.Round}
-use Rattle.bridge_report.specs.{Following.{Followed, unless_refused}, Laws.accepted_in, Reading.content_of, declared.refusal.Refusal.Refusal}
+use Rattle.bridge_report.specs.{Following.{Followed, unless_refused}, Laws.accepted_in, Reading.content_of}
+use Rattle.bridge_report.specs.declared.refusal.Refusal.{Refusal}
 use Rattle.bridge_playlists.specs.Playlists.{master_at, master_in}
 use Rattle.bridge_reach.specs.RoundLaws.{accepted_among, left_by}
 use Rattle.bridge_reach.specs.Rounds.{followed_rounds, hls_of, media_in, medias_behind, medias_of, medias_with, no_rounds, round_stream}

@@ -1,5 +1,6 @@
 -- The segments of playlists that are read, with their times, can be written and read.
-use Rattle.std.proofs.Common.{◌≡◌, ℕ, suc, ◌+◌, ◌≤◌, ◌<◌, ◌^◌, Bool, true, false, eqb, List, [], ◌∷◌, ◌++◌, map, length, slice_get, All, Option}
+use Rattle.std.proofs.Common.{◌≡◌, ℕ, suc, ◌+◌, ◌≤◌, ◌<◌, ◌^◌, Bool, true, false, eqb, List, [], ◌∷◌, ◌++◌, map, length, slice_get}
+use Rattle.std.proofs.Common.{All, Option}
 use Rattle.std.proofs.{Common.{Some, None, Ok, Err, unwrap_or, refl, sym, ◌∙◌, ap, subst, arith}, lemmas.Bool.{cond_both, or_parts}}
 use Rattle.std.proofs.{lemmas.Bool.Decides.nat_tests, lemmas.List.length-map, lemmas.List.Elements.{All-head, All-tail, All-nil, All-cons}}
 use Rattle.std.proofs.lemmas.List.Elements.{All-map}

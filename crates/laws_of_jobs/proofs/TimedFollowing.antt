@@ -1,7 +1,7 @@
 -- What runs of `follow-hls-times` leave.
 use Rattle.std.proofs.Common.{◌≡◌, ℕ, List, [], ◌∷◌, length, Option, None, Some, inl, inr, refl, sym, ap, ◌∙◌, subst, option_map}
 use Rattle.std.proofs.{lemmas.Option.same_Some}
-use Rattle.std.specs.{Prelude.{IsSome, Ok}}
+use Rattle.std.specs.{Prelude.{IsSome}}
 use Rattle.bridge_io.specs.{InOrder.put_all, Outside.{Files, Changes}}
 use Rattle.bridge_jobs.specs.{Frames.start, declared.round.Round.Round}
 use Rattle.bridge_courses.specs.{Courses.{Course, files_to}, Laws.{ExecutionLeavesSteps, ReadFaultLeavesSteps, VerdictKeepsSteps}}

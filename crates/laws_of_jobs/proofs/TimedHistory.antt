@@ -1,6 +1,6 @@
 -- A run over snapshots and their media files leaves what its whole history of accepted ones leaves.
-use Rattle.std.proofs.Common.{◌≡◌, ◌+◌, ℕ, List, [], ◌∷◌, ◌++◌, length, map, take, drop, Option, Some, None}
-use Rattle.std.proofs.{Common.{option_and_then, Result, Ok, Err, refl, sym, ap, ◌∙◌, subst, arith}, lemmas.List.length-map}
+use Rattle.std.proofs.Common.{◌≡◌, ◌+◌, ℕ, List, [], ◌∷◌, length, take, drop, Option, Some, None}
+use Rattle.std.proofs.{Common.{option_and_then, Result, Ok, refl, sym, ap, ◌∙◌, subst, arith}, lemmas.List.length-map}
 use Rattle.std.proofs.{lemmas.List.Elements.{All-nil, All-cons, All-drop, All-head, All-tail, All-take}, Math.Seq.take-add}
 use Rattle.std.specs.{List.All, Result.result_unwrap_or}
 use Rattle.bridge_io.specs.Outside.{Files}

@@ -1,23 +1,23 @@
 -- The MPD of a run of `follow-hls-times` is read as what it says.
 use Rattle.hls_presentation.specs.Sections as cuts
-use Rattle.std.proofs.Common.{◌≡◌, ◌<◌, ℕ, ℤ, suc, List, [], ◌∷◌, length, map, drop, take, All, Option, Some, None, Ok, IfSome, get_or, slice_get, ◌+◌}
+use Rattle.std.proofs.Common.{◌≡◌, ℕ, suc, List, [], ◌∷◌, length, map, drop, take, All, Option, Some, None, Ok}
+use Rattle.std.proofs.Common.{IfSome, get_or, slice_get, ◌+◌}
 use Rattle.std.proofs.{Common.{refl, sym, ◌∙◌, ap, subst, arith}, lemmas.Int.ints, lemmas.List.length-map}
-use Rattle.std.proofs.lemmas.List.Elements.{All-cons, All-head, All-map, All-nil, All-tail, All-take, All-weaker}
+use Rattle.std.proofs.lemmas.List.Elements.{All-cons, All-head, All-map, All-nil, All-tail, All-take}
 use Rattle.std.specs.Result.{result_unwrap_or}
-use Rattle.bridge_io.specs.Outside.{Files}
 use Rattle.bridge_io.proofs.AndThen.{steps_of}
 use Rattle.iso_time.specs.{Instant.IsReadable, Laws.InstantsAreDenoted}
 use Rattle.hls_master.specs.SeenTracks.{track_seen}
 use Rattle.hls_master.specs.declared.track.MasterTrack.{MasterTrack}
-use Rattle.hls_media.specs.{Laws.{IsBounded, ReadIsBounded}, declared.media.Media.Media, declared.media.MediaSegment.MediaSegment}
+use Rattle.hls_media.specs.{Laws.{IsBounded, ReadIsBounded}, declared.media.MediaSegment.MediaSegment}
 use Rattle.hls_presentation.specs.{Presenting.track_of, Tracks.{Source, sources}}
 use Rattle.hls_presentation.proofs.Grouping.{IsGroup, all_groups}
 use Rattle.dash_writer.specs.{declared.live.LiveMpd.LiveMpd, declared.live.LivePeriod.LivePeriod}
 use Rattle.fragment_times.specs.Origins.{OffsetsAreOneTime, origin_of}
 use Rattle.hls_follow.specs.{declared.state.Followed.Followed, declared.state.FollowedTrack.FollowedTrack}
-use Rattle.hls_follow.specs.{Kept.{flags_of, formers_of, periods_of}, OwnTimes.{Snapshot, period_in}, Rounds.start_of}
-use Rattle.hls_follow.specs.{Stretches.{Stretch, known_times, stretches_from, stretches_of_all}, TimedRounds.listed_by}
-use Rattle.hls_follow.specs.TimedHistories.{AreAccepted, BeginsByOffset, IsInStep, IsRound, Round as Snapshots, TimedRunsGoOn}
+use Rattle.hls_follow.specs.{Kept.{flags_of, formers_of, periods_of}, OwnTimes.{period_in}}
+use Rattle.hls_follow.specs.{Stretches.{known_times, stretches_from, stretches_of_all}, TimedRounds.listed_by}
+use Rattle.hls_follow.specs.TimedHistories.{BeginsByOffset, IsInStep, IsRound, Round as Snapshots, TimedRunsGoOn}
 use Rattle.hls_follow.specs.TimedHistories.{timed_by}
 use Rattle.hls_follow.proofs.{InStep.{IsGone, first_gone, found_in, gone_in_step, next_gone}, OwnHistories.from_first}
 use Rattle.hls_follow.proofs.{OwnParts.{OwnParts, parts_of}, OwnRows.{HasRow, rows_are}}
@@ -30,12 +30,13 @@ use Rattle.bridge_reach.specs.Rounds.{medias_of, urls_of}
 use Rattle.bridge_reach.specs.TimedRoundLaws.{Run, accepted_among, first_of, followed_with, history_to, hls_in, left_by, snapshots_along}
 use Rattle.bridge_reach.specs.TimedRoundLaws.{snapshots_in}
 use Rattle.laws_of_playlists.specs.Origins.{OwnTextsAreAddresses}
-use Rattle.laws_of_mpds.specs.{Contents.TimedContentsAreMeant, Forms.LiveFormsMeanTheSame, Live.{IsReadableMpd, LiveTextsAreRead}}
+use Rattle.laws_of_mpds.specs.{Contents.TimedContentsAreMeant, Forms.LiveFormsMeanTheSame, Live.{LiveTextsAreRead}}
 use Rattle.laws_of_mpds.specs.{Texts.IsTellable, Written.{CanBeTold, HaveAddresses, ReadCanBeTold, ReadHaveAddresses, ReadHaveRates}}
 use Rattle.laws_of_mpds.specs.Written.{TracksAreOfBytes}
 use Rattle.bridge_core.proofs.{Lies.lies_of, MpdPromises.{all_of_bytes, master_read}}
 use Rattle.laws_of_mpds.proofs.Whole.{IsFit, both, plain_segments, sources_all}
-use Rattle.laws_of_jobs.specs.{TimedFollowing.IsFollowingTimes, TimedReadings.{AreTimed, IsReadSnapshot, TimedRunsAreAlike, TimedRunsAreRead}}
+use Rattle.laws_of_jobs.specs.TimedFollowing.{IsFollowingTimes}
+use Rattle.laws_of_jobs.specs.{TimedReadings.{AreTimed, IsReadSnapshot, TimedRunsAreAlike, TimedRunsAreRead}}
 use Rattle.laws_of_jobs.proofs.{Bodies.{IsWhole as IsWholeBody, all_have}, LiveLists.all_mean, TimedHistory.{State, accepted_to}}
 use Rattle.laws_of_jobs.proofs.RoundReadings.{OfBytes, all_accepted, in_round, readable}
 use Rattle.laws_of_jobs.proofs.{Followed.{BeginsReadable, IsReadMpd, kept_fit, start_readable}, Periods.{IsReadPeriod, IsReadRun}}
@@ -48,7 +49,8 @@ stretches_plain : (known : List ℕ) (groups : List (List MediaSegment)) → All
     → ArePlain (stretches_from known groups)
 stretches_plain known [] all = All-nil IsPlainStretch
 stretches_plain known (group ∷ groups) all =
-    All-cons IsPlainStretch (record { segments = group; known = take (length group) known }) (stretches_from (drop (length group) known) groups)
+    All-cons IsPlainStretch (record { segments = group; known = take (length group) known })
+    (stretches_from (drop (length group) known) groups)
     (All-head (IsGroup IsPlainSegment) group groups all).all
     (stretches_plain (drop (length group) known) groups (All-tail (IsGroup IsPlainSegment) group groups all))
 
@@ -56,8 +58,10 @@ tracks_plain : (formers : List FollowedTrack) (from : ℕ) (kept : List Source) 
     → All ArePlain (stretches_of_all formers from kept)
 tracks_plain formers from [] fit = All-nil ArePlain
 tracks_plain formers from (s ∷ kept) fit =
-    All-cons ArePlain (stretches_from (known_times (slice_get formers from) s.media) (cuts.groups_in s)) (stretches_of_all formers (from + 1) kept)
-    (stretches_plain (known_times (slice_get formers from) s.media) (cuts.groups_in s) (all_groups IsPlainSegment s.media.segments (plain_segments s.media (All-head IsFit s kept fit).1)))
+    All-cons ArePlain (stretches_from (known_times (slice_get formers from) s.media) (cuts.groups_in s))
+    (stretches_of_all formers (from + 1) kept)
+    (stretches_plain (known_times (slice_get formers from) s.media) (cuts.groups_in s)
+    (all_groups IsPlainSegment s.media.segments (plain_segments s.media (All-head IsFit s kept fit).1)))
     (tracks_plain formers (from + 1) kept (All-tail IsFit s kept fit))
 
 -- ---- a snapshot
@@ -176,7 +180,8 @@ module _ (denoted : InstantsAreDenoted) (own : OwnTextsAreAddresses) (rates : Re
       let master = steps_of (content_of run.place.file run.files) (master_in run.place) run.tracks is.read in
       let read = master_read rates run.place master.value run.tracks master.then in
       let lies = lies_of run.job.base run.job.master run.place is.at in
-      let of_bytes = all_of_bytes run.tracks (lie master.value run.place.url (map track_seen run.tracks) (own run.place.url lies.own) read) in
+      let of_bytes = all_of_bytes run.tracks
+      (lie master.value run.place.url (map track_seen run.tracks) (own run.place.url lies.own) read) in
       let Whole : Round → Type 0 = IsWholeBody IsReadable (readable denoted) (length (urls_of run.tracks)) in
       let urls : All OfBytes (urls_of run.tracks) = All-map OfBytes (λ (track : MasterTrack). track.address) run.tracks of_bytes in
       let whole : All Whole (take n (snapshots_in run)) = All-take Whole n (snapshots_in run)

@@ -1,8 +1,8 @@
 -- The runs of snapshots with their files' times can be written and read.
 use Rattle.hls_follow.specs.TimedPeriods as periods
 use Rattle.layer_faults.specs.declared.times.FileFault.TheVariants as file
-use Rattle.std.proofs.Common.{◌≡◌, ℕ, zero, suc, ◌+◌, ◌-◌, ◌*◌, ◌<◌, ◌≤◌, ◌^◌, max, Bool, true, false, leb, ltb, List, [], ◌∷◌, map, length, sum}
-use Rattle.std.proofs.Common.{All, Option, Some, None, Result, Ok, Err, IfSome, unwrap_or, slice_get, get_or, refl, sym, ◌∙◌, ap, subst, arith}
+use Rattle.std.proofs.Common.{◌≡◌, ℕ, zero, suc, ◌+◌, ◌-◌, ◌*◌, ◌<◌, ◌≤◌, ◌^◌, Bool, true, false, leb, ltb, List, [], ◌∷◌, map, length, sum}
+use Rattle.std.proofs.Common.{All, Option, Some, None, Result, Ok, Err, IfSome, slice_get, get_or, refl, sym, ◌∙◌, ap, subst, arith}
 use Rattle.std.proofs.{lemmas.Bool.{leb-false, or_parts}, lemmas.List.Elements.{All-cons, All-head, All-nil, All-tail}}
 use Rattle.std.proofs.lemmas.List.Sums.{sum_by-cons}
 use Rattle.std.specs.{List.AllByRecursion}
@@ -16,12 +16,12 @@ use Rattle.fragment_times.specs.{declared.fault.SegmentSpot.SegmentSpot, declare
 use Rattle.fragment_times.specs.{declared.lasting.Clock.Clock, declared.origin.Origin.Origin, declared.times.SegmentTimes.SegmentTimes}
 use Rattle.fragment_times.specs.Durations.{begun_at, is_late, last_ticks_of, next_begun, ticks_behind, ticks_from, ticks_of}
 use Rattle.fragment_times.specs.{Origins.first_of, Parts.scale_at}
-use Rattle.hls_follow.specs.OwnTimes.{Snapshot, map_in, map_of, of_live, period_in, row_times, run_at, scale_of, track_times}
+use Rattle.hls_follow.specs.OwnTimes.{Snapshot, map_in, map_of, of_live, row_times, run_at, scale_of, track_times}
 use Rattle.hls_follow.specs.{Stretches.{Stretch, stretch_at}, Ticks.{clock_with, last_ticks, offset_of, row_runs}}
 use Rattle.hls_follow.specs.{Ticks.{spot_of, stretch_in, ticks_in, track_run}, TimedHistories.BeginsByOffset, Times.last_in}
 use Rattle.hls_follow.proofs.{CellFacts.{live_of, run_of, times_of}, Cells.known_run, OwnListing.{behind_is, times_ok}}
 use Rattle.laws_of_mpds.proofs.ReadPlain.{IsPlainSegment, map_own, range_readable}
-use Rattle.laws_of_mpds.specs.{Contents.IsOwnPart, Live.{IsReadableRun, durations_in}, Told.IsShort}
+use Rattle.laws_of_mpds.specs.{Contents.IsOwnPart, Told.IsShort}
 use Rattle.laws_of_jobs.proofs.{Periods.IsReadRun, Scales.scale_is}
 
 ok_same : {X E : Type 0} (a b : X) → ◌≡◌ {A = Result X E} (Ok a) (Ok b) → a ≡ b
@@ -86,7 +86,8 @@ short_from clock last begun (start ∷ starts) durations some is =
             let less = leb-false begun.start former one in
             omega (arith, same, less))
 
-short_of : (at : SegmentSpot) (clock : Clock) (last : ℕ) (starts durations : List ℕ) → 0 < last → ticks_of at clock last starts ≡ Ok durations
+short_of : (at : SegmentSpot) (clock : Clock) (last : ℕ) (starts durations : List ℕ) → 0 < last
+    → ticks_of at clock last starts ≡ Ok durations
     → AreShort (get_or starts 0 0) durations
 short_of at clock last [] durations some is =
     subst (AreShort 0) (let none : [] ≡ durations = cc in none) (record { lasting = tt; end = omega arith })
@@ -127,7 +128,8 @@ few_from time (d ∷ durations) (s ∷ segments) all =
     segments)) = refl in
     omega (arith, all.0, e, more, few_from (time + d) durations segments all.1)
 
-first_from : (time : ℕ) (durations : List ℕ) (segments : List MediaSegment) → first_time (periods.segments_from time durations segments) ≤ time
+first_from : (time : ℕ) (durations : List ℕ) (segments : List MediaSegment)
+    → first_time (periods.segments_from time durations segments) ≤ time
 first_from time durations [] = omega arith
 first_from time [] (s ∷ segments) = omega arith
 first_from time (d ∷ durations) (s ∷ segments) = omega arith
@@ -192,8 +194,8 @@ module _ (s : Snapshot) (files : Files) (at : SegmentSpot) (offset : ℕ) (known
       let r = run_of s at offset times ticks ticked in
       let l = live_of stretch ticks run live in
       let last = last_ticks (stretch_in s at).segments times.scale in
-      let short = short_of at (clock_with times.scale offset) last times.starts r.durations (some_last (stretch_in s at).segments times.scale)
-      r.ticks in
+      let short = short_of at (clock_with times.scale offset) last times.starts r.durations
+      (some_last (stretch_in s at).segments times.scale) r.ticks in
       let scale = scale_read s.folder files known stretch times.scale known_read t.scale in
       let first = first_of times in
       let are : run.segments ≡ periods.segments_from first r.durations stretch.segments = l.segments
@@ -254,7 +256,8 @@ module _ (s : Snapshot) (files : Files) (place : ℕ) (origin : Origin) (known :
       let a = steps_of (track_times s.folder files (run_at known track) (stretch_at place own)) _ row timed in
       let b = steps_of (row_times s.folder files known place (track + 1) tracks) _ row a.then in
       let whole_row : a.value ∷ b.value ≡ row = ok_same _ _ b.then in
-      let ticked_here : row_runs s place track origin (a.value ∷ b.value) ≡ Ok ticks = ap (row_runs s place track origin) whole_row ∙ ticked in
+      let ticked_here : row_runs s place track origin (a.value ∷ b.value) ≡ Ok ticks =
+      ap (row_runs s place track origin) whole_row ∙ ticked in
       let c = steps_of (track_run s (spot_of place track) (offset a.value) a.value) _ ticks ticked_here in
       let d = steps_of (row_runs s place (track + 1) origin b.value) _ ticks c.then in
       let whole_ticks : c.value ∷ d.value ≡ ticks = ok_same _ _ d.then in

@@ -1,13 +1,15 @@
 -- The files of a followed MPD, frame by frame.
-use Rattle.std.specs.Prelude.{◌≡◌, ◌⊎◌, ℕ, suc, List, [], ◌∷◌, ◌++◌, slice_get, Some, None}
+use Rattle.std.specs.Prelude.{◌≡◌, ◌⊎◌, ℕ, ◌≤◌, suc, true, false, List, [], ◌∷◌, ◌++◌, length, slice_get, Some, None}
 use Rattle.bridge_io.specs.{InOrder.put_all, Outside.{Files, Changes}}
 use Rattle.bridge_jobs.specs.declared.frame.Frame.{Frame}
-use Rattle.bridge_jobs.specs.declared.jobs.{Addresses.TheVariants.Absolute, FollowJob.FollowJob}
+use Rattle.bridge_jobs.specs.declared.jobs.{Addresses.TheVariants.Absolute, FollowJob.FollowJob, ReloadJob.ReloadJob}
 use Rattle.bridge_courses.specs.Courses.{Course, files_to}
 use Rattle.hls_writer.specs.Attributes.{playlist_name}
-use Rattle.live_meaning.specs.{States.State, Playlists.{FollowedPlaylist, playlist_of}}
-use Rattle.laws_of_reloads.specs.{First.HoldState, Laws.Reloads}
-use Rattle.bridge_playlists.specs.declared.place.StorePlace.{StorePlace}
+use Rattle.bridge_courses.specs.declared.status.Verdict.TheVariants.{Done}
+use Rattle.bridge_report.specs.{Bases.file_url, Outcomes.{Ends}, Reading.manifest_limit}
+use Rattle.live_meaning.specs.{Laws.media_of, States.State, Playlists.{FollowedPlaylist, playlist_of}}
+use Rattle.laws_of_reloads.specs.{First.HoldState, Laws.{IsWithinLimits, Reloads}}
+use Rattle.bridge_playlists.specs.{Reload.{lawful_line, reload_outcome}, declared.place.StorePlace.StorePlace}
 use Rattle.bridge_steps.specs.Playlists.{spelling_in}
 use Rattle.bridge_core.specs.Follow.{output_of_job, terms_at}
 use Rattle.bridge_live.specs.LiveMpds.{frame_refusal}
@@ -65,3 +67,24 @@ FollowedFilesReload =
     → Changes (put_all (files_to n course)) (Some first) (Some before)
     → Changes (put_all (files_to (suc n) course)) (Some first) (Some after)
     → FileReloads (prefix_of job ++ playlist_name t) from before after
+
+-- a file that has this text, no longer than a manifest may be, at this URL below a base
+pub record IsManifest (base name url text : List ℕ) (files : Files) : Type 0 where
+  pub located : file_url base name ≡ Some url
+  pub there : files name ≡ Some text
+  pub short : length text ≤ manifest_limit
+
+-- Of a track's file before and after another accepted frame `reload` reports a valid update, with all segments of both, where the
+-- numbers of both playlists are such as a reader takes.
+abbrev pub FollowedFilesAreLawful : Type 0
+FollowedFilesAreLawful =
+    (words : List (List ℕ)) (job : FollowJob) (place : StorePlace) (input : List ℕ) (course : Course) (n : ℕ) (first before after : Files)
+    (s next : State) (t : ℕ) (playlist renewed : FollowedPlaylist) (reload : ReloadJob) (old_url new_url old new : List ℕ) (files : Files)
+    → IsFollowing words job place input course → IsReadFrom job t old_url → IsReadFrom job t new_url
+    → IsAnother job place n input s → state_to (terms_at job place) (suc n) input ≡ Some next
+    → playlist_of s t ≡ Some playlist → playlist_of next t ≡ Some renewed → IsWithinLimits playlist → IsWithinLimits renewed
+    → Changes (put_all (files_to n course)) (Some first) (Some before)
+    → Changes (put_all (files_to (suc n) course)) (Some first) (Some after)
+    → before (prefix_of job ++ playlist_name t) ≡ Some old → after (prefix_of job ++ playlist_name t) ≡ Some new
+    → IsManifest reload.base reload.old old_url old files → IsManifest reload.base reload.new new_url new files
+    → reload_outcome reload (Some files) ≡ Some (Ends Done (lawful_line (media_of playlist) (media_of renewed)) true false)

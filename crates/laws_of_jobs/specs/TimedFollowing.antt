@@ -2,14 +2,13 @@
 use Rattle.bridge_jobs.specs.declared.jobs.Job.TheVariants as jobs
 use Rattle.std.specs.Prelude.{◌≡◌, ◌⊎◌, ℕ, ◌+◌, List, [], codes, length, slice_get, All, Some, None, Ok}
 use Rattle.bridge_io.specs.{InOrder.put_all, Outside.{Files, Changes}}
-use Rattle.hls_master.specs.declared.track.MasterTrack.{MasterTrack}
 use Rattle.dash_writer.specs.{Live.live_text, declared.live.LivePeriod.LivePeriod}
 use Rattle.hls_follow.specs.{Histories.HasNumber, Listed.GoesOn, TimedHistories.{IsInStep, IsPlaced, accepted_after}}
 use Rattle.hls_follow.specs.{TimedListed.{ListsOwnTrack, OwnPlaced}, declared.state.Followed.Followed}
 use Rattle.hls_follow.specs.declared.state.FollowedTrack.{FollowedTrack}
-use Rattle.bridge_jobs.specs.{Jobs.job_of, Laws.in_folder, declared.jobs.MasterJob.MasterJob}
+use Rattle.bridge_jobs.specs.{Jobs.job_of, Laws.in_folder}
 use Rattle.bridge_courses.specs.Courses.{Course, files_to}
-use Rattle.bridge_playlists.specs.{declared.place.StorePlace.StorePlace, Places.store_place_of, Playlists.master_at}
+use Rattle.bridge_playlists.specs.{Places.store_place_of, Playlists.master_at}
 use Rattle.bridge_reach.specs.TimedRoundLaws.{Run, accepted_among, history_to, left_by, snapshots_in}
 use Rattle.bridge_core.specs.Courses.{course_of}
 use Rattle.laws_of_jobs.specs.Ends.{Leaves}

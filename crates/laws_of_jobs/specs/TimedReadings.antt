@@ -9,7 +9,7 @@ use Rattle.dash_writer.specs.{Live.live_text, declared.live.LivePeriod.LivePerio
 use Rattle.hls_follow.specs.{declared.state.Followed.Followed, TimedHistories.{AreAccepted, Round}}
 use Rattle.bridge_courses.specs.Courses.{Course}
 use Rattle.bridge_reach.specs.TimedRoundLaws.{Run, left_by}
-use Rattle.laws_of_mpds.specs.{Live.{IsReadableMpd, live_shown}, Shown.shown_of, Written.HaveAddresses}
+use Rattle.laws_of_mpds.specs.{Live.{live_shown}, Shown.shown_of, Written.HaveAddresses}
 use Rattle.laws_of_jobs.specs.{Forms.LiveAreAlike, LiveLists.ListMeans, TimedFollowing.IsFollowingTimes}
 
 -- A snapshot with a timestamp that can be read, whose playlists have URLs as those that were read.

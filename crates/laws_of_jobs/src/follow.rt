@@ -1,7 +1,7 @@
 //! Laws of runs that follow an MPD. The functions do nothing: what they ensure is the law.
 ghost use Rattle.laws_of_jobs.specs.Counts.{FollowCountsSegments};
 ghost use Rattle.laws_of_jobs.specs.Ends.{FollowLeavesHistory};
-ghost use Rattle.laws_of_jobs.specs.Files.{FollowedFilesAreOfTheHistory, FollowedFilesReload};
+ghost use Rattle.laws_of_jobs.specs.Files.{FollowedFilesAreLawful, FollowedFilesAreOfTheHistory, FollowedFilesReload};
 ghost use Rattle.laws_of_jobs.specs.Frames.{FramesAreOfTheHistory};
 ghost use Rattle.laws_of_jobs.specs.Histories.{FollowedNeverDrift};
 
@@ -10,6 +10,7 @@ use laws_of_playlists::read_trees_are_of_bytes;
 use laws_of_reloads::followed_texts_reload;
 use live_meaning::{accepted_never_drift, histories_go_on};
 use mpd_presentation::presentations_show_their_mpd;
+use reload_law::rules_are_sentences;
 
 /// Each update frame of a followed MPD is accepted or rejected, written, reported and counted by the state after the
 /// whole history of frames accepted before it.
@@ -37,6 +38,19 @@ pub fn followed_files_reload()
     presentations_show_their_mpd();
     followed_texts_reload();
     read_trees_are_of_bytes();
+}
+
+/// `reload` of a track's file before and after another accepted update frame reports a valid update, with the segments of both; except
+/// where a text is longer than 8,388,608 bytes, a target duration is 2^31 seconds or more, a segment lasts more than 1,000,000 seconds, or
+/// a byte range ends at 2^63.
+pub fn followed_files_are_lawful()
+    ensures { FollowedFilesAreLawful }
+{
+    histories_go_on();
+    presentations_show_their_mpd();
+    followed_texts_reload();
+    read_trees_are_of_bytes();
+    rules_are_sentences();
 }
 
 /// However a run ends, its files are those of the accepted ones among some first update frames, and of the next frame nothing,

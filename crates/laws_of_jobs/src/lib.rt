@@ -9,8 +9,8 @@ mod timed_rounds;
 
 pub use follow::{
     a_followed_execution_counts_its_segments, a_followed_execution_leaves_its_history,
-    followed_durations_never_drift, followed_files_are_of_the_history, followed_files_reload,
-    frames_are_judged_by_the_history,
+    followed_durations_never_drift, followed_files_are_lawful, followed_files_are_of_the_history,
+    followed_files_reload, frames_are_judged_by_the_history,
 };
 pub use mpds::{
     both_forms_mean_the_same, followed_mpds_are_read, timed_mpds_mean_their_times,

@@ -1,11 +1,12 @@
 -- Which lines a written playlist has.
+pub use Rattle.laws_of_taken_playlists.proofs.Whole.{written}
 use Rattle.std.proofs.Common.{◌≡◌, ℕ, zero, suc, ◌/◌, ◌%◌, ◌<◌, false, true, List, [], ◌∷◌, ◌++◌, None, Ok, refl, arith}
 use Rattle.std.proofs.Common.{inl, inr, eqb, subst}
 use Rattle.std.proofs.{lemmas.Bool.{cases_Bool, lt-ltb}, lemmas.Bool.Decides.nat_tests, lemmas.List.Elements.{All-append, All-cons}}
 use Rattle.std.specs.{Fmt.{digit_glyph, digits, digits_onto}, Prelude.decimal, Char.is_ascii_digit, List.{All, list_all}}
 use Rattle.hls_lines.specs.Lines.{lines_of, start}
-use Rattle.hls_writer.specs.Lines.{WrittenLine, version, target_duration, media_sequence, discontinuity_sequence, line_bytes}
-use Rattle.hls_writer.specs.Playlists.{Head, Item, end_lines, followed_text, items_lines, media_lines}
+use Rattle.hls_writer.specs.Lines.{version, target_duration, media_sequence, discontinuity_sequence, line_bytes}
+use Rattle.hls_writer.specs.Playlists.{Head, Item, end_lines, followed_text, items_lines}
 use Rattle.laws_of_playlists.specs.{ReadLines.{IsReadable, said_from_place}, ReadMedia.{IsReadableItem, IsShortNumber}}
 use Rattle.laws_of_playlists.proofs.Readable.{end_lines_readable, is_visible, items_readable, readable, sequence_readable, target_readable}
 use Rattle.url_parts.proofs.Spellings.{stands_alone}
@@ -33,11 +34,6 @@ section_readable : (n : ℕ) → IsReadable (discontinuity_sequence n)
 unfolding line_bytes digits
 section_readable n = readable (discontinuity_sequence n)
     (weaker is_ascii_digit is_visible digit_visible (decimal n) (digits_before 64 n [] refl)) tt
-
--- the lines of a playlist behind its first one
-abbrev pub written : Head → List Item → List WrittenLine
-written head items =
-    media_lines head.target head.sequence (discontinuity_sequence head.first_section) head.digits items head.ended
 
 pub lines_are : (head : Head) (items : List Item) → IsShortNumber head.target → IsShortNumber head.sequence
     → All (IsReadableItem head.digits) items → lines_of (followed_text head items) ≡ Ok (said_from_place start (written head items))

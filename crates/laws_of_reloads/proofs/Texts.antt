@@ -3,11 +3,12 @@ use Rattle.hls_media.specs.Media as hls
 use Rattle.laws_of_playlists.specs.ReadMedia as read
 use Rattle.mpd_levels.specs.Segments.{segments_of as told_segments_of}
 use Rattle.std.proofs.Common.{zero, suc, ◌≡◌, ℕ, true, ◌+◌, ◌*◌, ◌^◌, ◌≤◌, ◌<◌, List, [], ◌∷◌, ◌++◌, map, length, Option, Ok, IfSome, sym}
-use Rattle.std.proofs.Common.{subst, arith, ◌-◌, Bool, ℤ, filter, Some, None, refl, ◌∙◌, ap, inl, inr, drop, length-append}
+use Rattle.std.proofs.Common.{get_or, subst, arith, ◌-◌, Bool, ℤ, filter, Some, None, refl, ◌∙◌, ap, inl, inr, drop, length-append}
 use Rattle.std.proofs.{lemmas.Bool.Decides.nat_tests, lemmas.Bool.cases_Bool, lemmas.Grind.div_ceil_times}
 use Rattle.std.proofs.Math.Nat.{mul-le-mul_left, one-le-pow}
 use Rattle.std.proofs.lemmas.List.Elements.{All-append, filter_passes, All-push, All-drop, All-map, All-nil}
-use Rattle.std.proofs.{lemmas.List.{get_or_at, length_push, get_or_append_left}, lemmas.List.Sums.fold-append, lemmas.Option.slice_get-map}
+use Rattle.std.proofs.{lemmas.List.{get_or_at, length-map, length_push, get_or_append_left}}
+use Rattle.std.proofs.{lemmas.List.Sums.fold-append, lemmas.Option.slice_get-map}
 use Rattle.std.specs.{Prelude.{All, codes, option_and_then, unwrap_or, flat_map, option_map, slice_get}, List.{range_with_len, fold}}
 use Rattle.std.specs.Option.{option_map_or}
 use Rattle.iso_time.specs.Duration.{duration_of}
@@ -37,11 +38,12 @@ use Rattle.laws_of_playlists.specs.Origins.{AreInPace, AreShortInPace, CameFromM
 use Rattle.laws_of_playlists.specs.Origins.{IsLocated, PartsAreLocated, ReadingsAreOfBytes}
 use Rattle.laws_of_playlists.specs.ReadMedia.{AreInOrder, GoOn, IsReadableItem, ReadsAs, SpelledAreRead, Spells}
 use Rattle.laws_of_playlists.proofs.OriginKept.{are_untold}
+use Rattle.laws_of_taken_playlists.{specs.Laws.IsShortItem, proofs.{Rounding.not_long, Whole.written_are_taken}}
 use Rattle.url_parts.specs.{Addresses.IsAddress}
 use Rattle.timeline.specs.{Expansions.{SegmentTimeline, Timing}, Listed.part_of_timing}
 use Rattle.followed.specs.Durations.{Last, durations, told}
 use Rattle.laws_of_reloads.specs.Laws.{IsRead, IsReadIfAny, AreRead, FollowedTextsAreRead, FollowedTextsReload, IsFollowed}
-use Rattle.laws_of_reloads.specs.Laws.{ReadTextsReload}
+use Rattle.laws_of_reloads.specs.Laws.{FollowedTextsAreTaken, ReadTextsReload, TakenTextsReload}
 use Rattle.bridge_io.specs.{Answer.and_then, Places.place_of}
 use Rattle.hls_media.specs.{Media.{lines_or_fault, media_in, media_of as read_media}, declared.media.Media.Media}
 use Rattle.hls_writer.specs.Finished.{rounded}
@@ -201,6 +203,15 @@ kept_readable digits target first all short addressed fits =
     All-map (IsReadableItem digits) item_of (drop first ts) (All-drop (λ k. IsReadableItem digits (item_of k)) first ts
     (λ j d within. grind (arith, nat_tests, parts j d within, lengths j d within, short)))
 
+kept_short : (digits target first : ℕ) (all : List Segment) → digits ≤ 9
+    → All (λ d. rounded (10 ^ digits) d ≤ target) (durations (told (10 ^ digits) all))
+    → All (IsShortItem target digits) (map item_of (drop first (told (10 ^ digits) all)))
+kept_short digits target first all few fits =
+    let ts : List Kept = told (10 ^ digits) all in
+    let lengths = unmapped (λ d. rounded (10 ^ digits) d ≤ target) (λ (k : Kept). k.duration) ts fits in
+    All-map (IsShortItem target digits) item_of (drop first ts) (All-drop (λ k. IsShortItem target digits (item_of k)) first ts
+    (λ j d within. not_long digits (get_or ts j d).duration target few (lengths j d within)))
+
 abbrev Follows : Segment → Segment → Type 0
 Follows x y = (x.section ≤ y.section) × (x.section ≡ y.section → y.value.map ≡ x.value.map)
 
@@ -239,12 +250,20 @@ each_read : (history : List Update) → AreRead history → (front : List Update
 each_read history read front u back same =
     grind (arith, same, read (length front) u, get_or_at front u back u (length front), length-append front (u ∷ back))
 
--- a playlist that is read back as it was written
+first_below : (bound : ℕ) (ks : List Kept) → All (λ x. x.section < bound) (segments_of ks) → bound ≤ 2 ^ 63 → first_section ks < 2 ^ 63
+first_below bound [] all most = omega arith
+first_below bound (k ∷ ks) all most = omega (arith, all 0 k.segment (omega arith), most)
+
+-- a playlist that is read back as it was written, with numbers that are small
 record CanBeRead (playlist : FollowedPlaylist) : Type 0 where
   head : read.IsReadableHead playlist.head
   items : read.AreReadable playlist.head.digits playlist.items
   same : read.segments_of playlist.head.first_section playlist.head.digits playlist.items
       ≡ map (segment_of playlist.head.digits) playlist.items
+  sequence : playlist.head.sequence < 2 ^ 63
+  first_section : playlist.head.first_section < 2 ^ 63
+  kept : length playlist.items ≤ 20000
+  fits : All (IsShortItem playlist.head.target playlist.head.digits) playlist.items
 
 module _ (never_fall : SectionsNeverFall) (one_map : SectionsHaveOneMap) (fit : DurationsFitTarget) (small : NumbersStaySmall)
     (meant : MadeAreMeant) (initializations : InitializationsAreLocated) (parts : PartsAreLocated) (readings : ReadingsAreOfBytes)
@@ -283,6 +302,12 @@ module _ (never_fall : SectionsNeverFall) (one_map : SectionsHaveOneMap) (fit : 
           order = in_order track.kept follow;
         };
         same = segments_are digits track.kept follow;
+        sequence = omega (arith, numbers.1.listed, numbers.0, few);
+        first_section = first_below (1001 * w.common.accepted) track.kept (λ k d within. numbers.1.sections k d within)
+            (omega (arith, numbers.0, few));
+        kept = omega (arith, length-map track.kept item_of, numbers.1.kept);
+        fits = kept_short digits w.common.target past.first past.all (subst (λ (x : Terms). x.digits ≤ 9) (sym its_terms) followed.digits)
+            fits;
       }
 
   pub followed_texts_are_read : FollowedTextsAreRead
@@ -291,6 +316,19 @@ module _ (never_fall : SectionsNeverFall) (one_map : SectionsHaveOneMap) (fit : 
       let can = subst CanBeRead made (past_readable terms history w t past followed shows.accepted whole at) in
       let is = read_again place playlist.head playlist.items url spells can.head can.items in
       (is.0, (is.1.0, cc (is.1.1, can.same)))
+
+  pub followed_texts_are_taken : FollowedTextsAreTaken
+  followed_texts_are_taken place terms history s t playlist url spells followed shows there within =
+      let (w, past, whole, at, same, made) = shown_playlist terms history s t playlist shows.leaves there in
+      let can = subst CanBeRead made (past_readable terms history w t past followed shows.accepted whole at) in
+      written_are_taken place playlist.head playlist.items url spells (record {
+        readable_head = can.head;
+        readable = can.items;
+        small = record { target = within.target; sequence = can.sequence; first_section = can.first_section };
+        few = omega (arith, can.kept);
+        each = within.each;
+        short = can.fits;
+      }) ∙ ap Ok (cc can.same)
 
 -- ---- reloads
 -- what holds of each of some updates holds of those that are accepted, which are no more
@@ -326,7 +364,8 @@ only_meaning text url media given is found =
     let of_lines = ap (λ r. and_then (lines_or_fault r) (media_in (place_of text (length text)) url)) (sym is.1.0) ∙ found in
     grind (arith, is.1.1, of_lines)
 
-module _ (texts : FollowedTextsAreRead) (reload : ReloadsAreLawful) (sentences : RulesAreSentences) (accepted : AcceptedAreAccepted) where
+module _ (texts : FollowedTextsAreRead) (taken : FollowedTextsAreTaken) (reload : ReloadsAreLawful) (sentences : RulesAreSentences)
+    (accepted : AcceptedAreAccepted) where
   pub followed_texts_reload : FollowedTextsReload
   followed_texts_reload place terms updates u t old new url spells is =
       let history : List Update = accepted_of terms updates in
@@ -352,3 +391,17 @@ module _ (texts : FollowedTextsAreRead) (reload : ReloadsAreLawful) (sentences :
       let own = followed_texts_reload place terms updates u t old new url spells is in
       let old_same = only_meaning (live_text place old) url own.before before own.old_is old_read in
       rw (← old_same, ← only_meaning (live_text place new) url own.after after own.new_is new_read) own.lawful
+
+  pub taken_texts_reload : TakenTextsReload
+  unfolding followed_texts_reload
+  taken_texts_reload place terms updates u t old new old_url new_url old_spells new_spells is old_within new_within =
+      let history : List Update = accepted_of terms updates in
+      let more : List Update = accepted_of terms (updates ++ u ∷ []) in
+      let shows : Shows terms history is.before = record { accepted = accepted terms updates; leaves = is.leaves } in
+      let shows_more : Shows terms more is.after = record { accepted = accepted terms (updates ++ u ∷ []); leaves = is.leaves_more } in
+      let front = accepted_followed terms updates (front_followed terms updates u is.followed) in
+      let whole = accepted_followed terms (updates ++ u ∷ []) is.followed in
+      let old_read = taken place terms history is.before t old old_url old_spells front shows is.old_is old_within in
+      let new_read = taken place terms more is.after t new new_url new_spells whole shows_more is.new_is new_within in
+      let both = followed_texts_reload place terms updates u t old new old_url old_spells is in
+      (old_read, (new_read, both.lawful))

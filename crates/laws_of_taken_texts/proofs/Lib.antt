@@ -1,5 +1,4 @@
 mod Dates
-mod Faultless
 mod Parts
 mod Publishing
 mod Reading

@@ -19,7 +19,8 @@ use Rattle.laws_of_playlists.specs.ReadMedia.{nanos_of}
 use Rattle.laws_of_publishing.specs.Laws.{Accepted, Replaced, appended_in, fresh_in, without_section}
 use Rattle.laws_of_publishing.proofs.{Comes.change_is, Going.lists_go_on, Made.made}
 use Rattle.laws_of_published_texts.proofs.{Goes.same_digits, Sound.IsSound}
-use Rattle.laws_of_taken_texts.proofs.{Dates.{IsDated, IsShortFor}, Faultless.IsTakenItem, Taking.IsBoundedList}
+use Rattle.laws_of_taken_playlists.specs.Laws.{IsTakenItem}
+use Rattle.laws_of_taken_texts.proofs.{Dates.{IsDated, IsShortFor}, Taking.IsBoundedList}
 
 -- ---- no long segment is published
 

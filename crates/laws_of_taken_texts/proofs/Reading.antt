@@ -21,7 +21,8 @@ use Rattle.laws_of_published_texts.proofs.{Given.{IsGiven, given}, Lines.written
 use Rattle.laws_of_published_texts.proofs.Sound.{IsSound, each_item, fewer, first_below, item_by, lines_told, media_told_in, read_is_sound}
 use Rattle.laws_of_published_texts.proofs.Sound.{sound_is_told}
 use Rattle.laws_of_taken_texts.proofs.Dates.{IsDated, IsShortFor, all_short, date_told, dated, few_dates, list_dates}
-use Rattle.laws_of_taken_texts.proofs.{Faultless.IsTakenItem, Taking.{IsBoundedList, target_kept}}
+use Rattle.laws_of_taken_playlists.{specs.Laws.IsTakenItem, proofs.Whole.target_kept}
+use Rattle.laws_of_taken_texts.proofs.{Taking.IsBoundedList}
 
 module _ (digits : ℕ) where
   dates_with : (s : MediaSegment) (date : ℤ) (o : Option Part) (ss : List MediaSegment) (dates : List ℤ) (rest : List MediaItem)

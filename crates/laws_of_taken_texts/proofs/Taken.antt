@@ -8,7 +8,8 @@ use Rattle.laws_of_playlists.specs.ReadMedia.{FollowedAreRead, nanos_of}
 use Rattle.laws_of_published_texts.specs.Laws.{IsRead, list_with}
 use Rattle.laws_of_published_texts.proofs.{Goes.published_is_sound, Sound.{IsSound, read_is_sound}}
 use Rattle.laws_of_taken_texts.specs.Laws.{FirstTextsAreTaken, PublishedTextsAreTaken, ReadTextsAreTaken}
-use Rattle.laws_of_taken_texts.proofs.{Faultless.not_above, Publishing.published_is_bounded, Reading.read_is_bounded}
+use Rattle.laws_of_taken_playlists.proofs.Faultless.{not_above}
+use Rattle.laws_of_taken_texts.proofs.{Publishing.published_is_bounded, Reading.read_is_bounded}
 use Rattle.laws_of_taken_texts.proofs.Taking.{IsBoundedList, taken}
 
 -- what is short for a target duration is short for a greater one

@@ -1,26 +1,24 @@
 -- A list with the bounds of what is read is taken of its text.
-use Rattle.std.proofs.Common.{◌≡◌, ℕ, ◌-◌, ◌*◌, ◌/◌, ◌^◌, ◌≤◌, true, List, [], ◌∷◌, ◌++◌, length, map, Option, Some, None}
-use Rattle.std.proofs.Common.{Ok, unwrap_or, is_some, refl, sym, ◌∙◌, ap, ap₂, arith}
-use Rattle.std.proofs.{Math.Nat.{mul-div_cancel, one-le-pow}, lemmas.List.length-map, lemmas.List.Elements.{All-head, All-map, All-tail}}
+use Rattle.std.proofs.Common.{◌≡◌, ℕ, ◌-◌, ◌*◌, ◌/◌, ◌^◌, ◌≤◌, List, [], ◌∷◌, length, map, Some, None}
+use Rattle.std.proofs.Common.{Ok, refl, sym, ◌∙◌, ap, ap₂, arith, subst}
+use Rattle.std.proofs.{Math.Nat.{mul-div_cancel, one-le-pow}, lemmas.List.length-map, lemmas.List.Elements.{All-head, All-map}}
 use Rattle.std.proofs.lemmas.Slice.Eq.{bytes_eq-Decides}
-use Rattle.std.specs.List.{All, list_all}
-use Rattle.bridge_io.specs.{Firsts.first_of, Places.place_of, declared.place.Place.Place}
-use Rattle.hls_lines.specs.Lines.{PlaylistLine, behind, lines_of, start}
-use Rattle.hls_media.specs.Media.{after, after_all, is_short, line_faults, long_faults, media_of, media_values}
-use Rattle.hls_media.specs.{States.{State, nothing}, Tags.tag_of, declared.media.Media.Media}
-use Rattle.hls_media.proofs.{Lengths.none_long, Wholes.media_in-good}
-use Rattle.hls_writer.specs.Lines.{WrittenLine, header, version, target_duration, media_sequence, discontinuity_sequence, line_bytes}
-use Rattle.hls_writer.specs.{Items.{head_of, item_of}, Playlists.{Head, Item, end_lines, items_lines}, declared.items.MediaItem.MediaItem}
+use Rattle.std.specs.List.{All}
+use Rattle.url_parts.proofs.Spellings.{stands_alone}
+use Rattle.hls_lines.specs.Lines.{PlaylistLine, lines_of, start}
+use Rattle.hls_media.specs.Media.{media_of, media_values}
+use Rattle.hls_writer.specs.{Items.{head_of, item_of}, Playlists.{Head, Item, followed_text}, declared.items.MediaItem.MediaItem}
+use Rattle.hls_writer.proofs.Spelled.{plain_items}
 use Rattle.followed_text.specs.Followed.{candidate_of, dates_of, digits_from, digits_of, followed_from, followed_of, items_of, text_of}
 use Rattle.followed_text.specs.declared.followed.FollowedText.{FollowedText}
 use Rattle.publish_law.specs.Lists.{first_section}
-use Rattle.laws_of_playlists.specs.{ReadLines.{said_at, said_from_place}, ReadMedia.IsReadableItem}
+use Rattle.laws_of_playlists.specs.{ReadLines.said_from_place, ReadMedia.{IsReadableItem, media_of_items}}
 use Rattle.laws_of_playlists.proofs.Items.{followed_are_read}
 use Rattle.laws_of_publishing.specs.Laws.{media_told, segment_told}
 use Rattle.laws_of_published_texts.proofs.{Lines.{lines_are, written}, Maps.IsGood, Sound.{IsSound, sound_is_told}}
-use Rattle.laws_of_taken_texts.proofs.Dates.{IsDated, IsShortFor, dates_told, list_dates}
-use Rattle.laws_of_taken_texts.proofs.Faultless.{IsTakenHead, IsTakenItem, lines_clean}
-use Rattle.laws_of_taken_texts.proofs.Parts.{decimals_are}
+use Rattle.laws_of_taken_playlists.specs.Laws.{IsShortItem, IsTaken, IsTakenHead, IsTakenItem}
+use Rattle.laws_of_taken_playlists.proofs.Whole.{written_are_taken}
+use Rattle.laws_of_taken_texts.proofs.{Dates.{IsDated, IsShortFor, dates_told, list_dates}, Parts.decimals_are}
 
 -- The numbers and dates of a list are such as a reader takes.
 pub record IsBoundedList (list : FollowedText) : Type 0 where
@@ -31,37 +29,6 @@ pub record IsBoundedList (list : FollowedText) : Type 0 where
   pub each : All (λ (item : MediaItem). IsTakenItem list.head.digits (item_of item)) list.items
   pub short : All (IsShortFor list.head.target list.head.digits) list.items
   pub dated : All IsDated list.items
-
--- ---- the target duration is told
-
-line_keeps : (url : List ℕ) (s : State) (line : WrittenLine) (place : Place) → is_some s.target ≡ true
-    → is_some (after url s (said_at line place)).target ≡ true
-unfolding tag_of
-line_keeps url s (target_duration seconds) place is = refl
-line_keeps url s other place is = is
-
-keeps_target : (url : List ℕ) (s : State) (place : Place) (lines : List WrittenLine) → is_some s.target ≡ true
-    → is_some (after_all url s (said_from_place place lines)).target ≡ true
-keeps_target url s place [] is = is
-keeps_target url s place (line ∷ lines) is =
-    keeps_target url (after url s (said_at line place)) (behind (line_bytes line) place) lines (line_keeps url s line place is)
-
-some_of : (o : Option ℕ) → is_some o ≡ true → o ≡ Some (unwrap_or o 0)
-some_of None never = absurd (cc)
-some_of (Some n) is = refl
-
-pub target_kept : (url : List ℕ) (head : Head) (items : List Item) (media : Media)
-    → media_values url (said_from_place start (written head items)) ≡ media
-    → (after_all url nothing (said_from_place start (written head items))).target ≡ Some media.target
-unfolding media_values tag_of
-target_kept url head items media is =
-    let body = items_lines head.digits None items ++ end_lines head.ended in
-    let rest = media_sequence head.sequence ∷ (discontinuity_sequence head.first_section ∷ body) in
-    let place = behind (line_bytes (version 6)) (behind (line_bytes header) start) in
-    let told = after url nothing (said_at (target_duration head.target) place) in
-    some_of (after_all url nothing (said_from_place start (written head items))).target
-    (keeps_target url told (behind (line_bytes (target_duration head.target)) place) rest refl)
-    ∙ ap (λ (m : Media). Some m.target) is
 
 -- ---- items
 
@@ -78,12 +45,6 @@ from_told : (list : FollowedText) (items : List MediaItem) → items ≡ list.it
 from_told list [] are some first = absurd (omega (arith, some))
 from_told list (item ∷ items) are some first =
     ap₂ (λ (n : ℕ) (l : List MediaItem). Some (record { head = record list.head { first_section = n }; items = l })) (sym first) are
-
-none_long_in : (target digits : ℕ) (items : List MediaItem) → All (IsShortFor target digits) items
-    → list_all (is_short target) (map (segment_told digits) items) ≡ true
-none_long_in target digits [] all = refl
-none_long_in target digits (item ∷ items) all = rw (All-head (IsShortFor target digits) item items all)
-    (none_long_in target digits items (All-tail (IsShortFor target digits) item items all))
 
 -- the first EXTINF
 first_digits : (head : Head) (items : List MediaItem) → 1 ≤ length items → head.digits ≤ 9 → All (IsGood head.digits) items
@@ -111,28 +72,29 @@ module _ (list : FollowedText) (sound : IsSound list) (bounded : IsBoundedList l
   lines_told : lines_of (text_of list) ≡ Ok lines
   lines_told = lines_are head items (omega (arith, bounded.head.target)) (omega (arith, bounded.head.sequence)) readable
 
+  is_taken : IsTaken head items
+  is_taken = record {
+    readable_head = sound.head;
+    readable = record { few = sound.few; each = readable; order = sound.order };
+    small = bounded.head;
+    few = omega (arith, bounded.few, length-map list.items item_of);
+    each = All-map (IsTakenItem digits) item_of list.items bounded.each;
+    short = All-map (IsShortItem list.head.target digits) item_of list.items bounded.short;
+  }
+
   module _ (url : List ℕ) where
-    clean : line_faults url nothing lines ≡ []
-    clean = lines_clean url head items bounded.head sound.few (omega (arith, bounded.few, length-map list.items item_of)) readable
-        (All-map (IsTakenItem digits) item_of list.items bounded.each) start
-
-    values : media_values url lines ≡ media_told list
-    values = let told = sound_is_told followed_are_read list sound url in
-        let same : told.0 ≡ lines = let both : Ok told.0 ≡ Ok lines = sym told.1.0 ∙ lines_told in cc in
-        ap (media_values url) (sym same) ∙ told.1.1
-
-    none_is_long : first_of (long_faults list.head.target lines) ≡ None
-    unfolding media_values
-    none_is_long = none_long url list.head.target lines nothing clean
-        (ap (λ (m : Media). list_all (is_short list.head.target) m.segments) values
-        ∙ none_long_in list.head.target digits list.items bounded.short)
+    told_is : media_of_items head items ≡ media_told list
+    told_is =
+        let read = followed_are_read head items url is_taken.readable_head is_taken.readable in
+        let told = sound_is_told followed_are_read list sound url in
+        let both : Ok read.0 ≡ Ok told.0 = sym read.1.0 ∙ told.1.0 in
+        let same : read.0 ≡ told.0 = cc in
+        sym read.1.1 ∙ ap (media_values url) same ∙ told.1.1
 
     media_is : media_of (text_of list) url ≡ Ok (media_told list)
-    unfolding media_of media_values
-    media_is = rw lines_told
-        (media_in-good (place_of (text_of list) (length (text_of list))) url lines list.head.target clean
-        (target_kept url head items (media_told list) values) none_is_long
-        ∙ ap Ok values)
+    media_is = subst (λ (written : List Item). media_of (followed_text head written) url ≡ Ok (media_of_items head items))
+        (plain_items items) (written_are_taken None head items url (stands_alone url) is_taken)
+        ∙ ap Ok told_is
 
   dates_are_told : dates_of lines ≡ map (λ (item : MediaItem). item.date) list.items
   dates_are_told = list_dates head list.items ∙ dates_told list.items bounded.dated

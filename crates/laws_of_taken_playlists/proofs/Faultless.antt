@@ -5,34 +5,22 @@ use Rattle.std.proofs.{Common.{length-append, nat_lt}, lemmas.Bool.{cases_Bool, 
 use Rattle.std.proofs.lemmas.List.Elements.{All-head, All-tail}
 use Rattle.std.specs.{Prelude.{ℤ}, List.{All, list_any}}
 use Rattle.bridge_io.specs.declared.place.Place.{Place}
-use Rattle.url_parts.specs.{declared.range.Range.Range}
+use Rattle.url_parts.specs.{Spelling.{PlaylistPlace, spelled}, declared.range.Range.Range}
 use Rattle.hls_lines.specs.{Lines.{behind, is_uri}}
 use Rattle.hls_media.specs.{Laws.IsBoundedRange, Media.{after, former_end, line_fault, line_faults, segment_of, segment_range}}
 use Rattle.hls_media.specs.{Media.with_fault, States.{State, nothing}, Tags.tag_of, Values.{end_of}}
 use Rattle.hls_writer.specs.Lines.{WrittenLine, header, version, target_duration, media_sequence, discontinuity_sequence}
 use Rattle.hls_writer.specs.Lines.{discontinuity, initialization, program_date_time, duration, byte_range, uri, line_bytes, range_bytes}
 use Rattle.hls_writer.specs.Playlists.{Head, Item, begins_section, end_lines, items_lines, media_lines, own_lines}
-use Rattle.hls_writer.specs.Playlists.{present, rise}
-use Rattle.laws_of_playlists.specs.{ReadLines.{said_at, said_from_place}, ReadMedia.{IsReadableItem}}
-use Rattle.laws_of_playlists.specs.ReadMedia.{IsReadableRange, nanos_of}
+use Rattle.hls_writer.specs.{Playlists.{present, rise}, Spelled.{spelled_item, spelled_items, spelled_part}}
+use Rattle.laws_of_playlists.specs.{ReadLines.{said_at, said_from_place}, ReadMedia.{IsReadableItem, IsReadableRange, Spells, nanos_of}}
 use Rattle.laws_of_playlists.proofs.Values.{duration_is, number_is, range_is}
-use Rattle.laws_of_taken_texts.proofs.{Parts.{in_range, map_taken, resolved}}
+use Rattle.laws_of_taken_playlists.specs.Laws.{IsTakenHead, IsTakenItem}
+use Rattle.laws_of_taken_playlists.proofs.{Parts.{in_range, map_taken}}
 
 -- from a state on, lines have no fault, wherever the first of them stands
 abbrev pub Clean : List ℕ → State → List WrittenLine → Type 0
 Clean url s lines = (place : Place) → line_faults url s (said_from_place place lines) ≡ []
-
--- The numbers of a segment are such as a reader takes.
-pub record IsTakenItem (digits : ℕ) (item : Item) : Type 0 where
-  pub range : IfSome item.part.range IsBoundedRange
-  pub map : IfSome item.map.range IsBoundedRange
-  pub lasts : nanos_of digits item.duration ≤ 10 ^ 15
-
--- and those of a head
-pub record IsTakenHead (head : Head) : Type 0 where
-  pub target : head.target < 2 ^ 31
-  pub sequence : head.sequence < 2 ^ 63
-  pub first_section : head.first_section < 2 ^ 63
 
 -- behind a segment, or before all
 pub record IsBetween (s : State) (n : ℕ) : Type 0 where
@@ -46,7 +34,7 @@ not_full n less = grind (arith, nat_tests)
 pub not_above : (n most : ℕ) → n ≤ most → nat_lt most n ≡ false
 not_above n most le = grind (arith, nat_tests)
 
-module _ (url : List ℕ) where
+module _ (beside : Option PlaylistPlace) (url : List ℕ) (spells : Spells beside url) where
   step : (s : State) (line : WrittenLine) (lines : List WrittenLine)
       → ((place : Place) → line_fault url s (said_at line place) (list_any is_uri (said_from_place (behind (line_bytes line) place) lines))
       ≡ None)
@@ -61,13 +49,16 @@ module _ (url : List ℕ) where
 
     module _ (item : Item) (is : IsReadableItem digits item) (taken : IsTakenItem digits item) (n : ℕ) (room : n < 100_000)
         (rest : List WrittenLine) (on : (s : State) → IsBetween s (suc n) → Clean url s rest) where
+      abbrev text : List ℕ
+      text = spelled beside item.part.address
+
       uri_clean : (s : State) (lasting : ℕ) → s.duration ≡ Some lasting → (range : Option Range)
-          → segment_range s item.part.address s.range ≡ Ok range → length s.segments ≡ n → Clean url s (uri item.part.address ∷ rest)
+          → segment_range s item.part.address s.range ≡ Ok range → length s.segments ≡ n → Clean url s (uri text ∷ rest)
       unfolding segment_of
       uri_clean s lasting lasts range told count =
           let free : eqb (length s.segments) 100_000 ≡ false = rw count (not_full n room) in
-          step s (uri item.part.address) rest (λ place. rw (lasts, free, resolved url item.part.address is.part.address, told) refl)
-          (λ place. on (after url s (said_at (uri item.part.address) place)) (record {
+          step s (uri text) rest (λ place. rw (lasts, free, (spells item.part.address is.part.address).given, told) refl)
+          (λ place. on (after url s (said_at (uri text) place)) (record {
             lasting = refl;
             range = refl;
             count = length-append s.segments _ ∙ omega (arith, count);
@@ -75,29 +66,29 @@ module _ (url : List ℕ) where
 
       range_clean : (range : Option Range) → IfSome range IsReadableRange → IfSome range IsBoundedRange → (s : State) (lasting : ℕ)
           → s.duration ≡ Some lasting → s.range ≡ None → length s.segments ≡ n
-          → Clean url s (present (option_map byte_range range ∷ Some (uri item.part.address) ∷ []) ++ rest)
+          → Clean url s (present (option_map byte_range range ∷ Some (uri text) ∷ []) ++ rest)
       unfolding tag_of
       range_clean None readable bounded s lasting lasts none count = uri_clean s lasting lasts None (rw none refl) count
       range_clean (Some range) readable bounded s lasting lasts none count =
-          step s (byte_range range) (uri item.part.address ∷ rest) (λ place. rw (in_range range readable bounded) refl)
+          step s (byte_range range) (uri text ∷ rest) (λ place. rw (in_range range readable bounded) refl)
           (λ place. uri_clean (record s { range = Some (range_bytes range, place) }) lasting lasts (Some range)
           (rw (range_is (former_end item.part.address s.segments) range readable, lt-ltb (end_of range) (2 ^ 63) bounded.ends) refl) count)
 
       follows : (range : Option Range) (place : Place) → list_any is_uri (said_from_place place
-          (present (option_map byte_range range ∷ Some (uri item.part.address) ∷ []) ++ rest)) ≡ true
+          (present (option_map byte_range range ∷ Some (uri text) ∷ []) ++ rest)) ≡ true
       follows None place = refl
       follows (Some range) place = refl
 
       abbrev uri_tail : List WrittenLine
-      uri_tail = present (option_map byte_range item.part.range ∷ Some (uri item.part.address) ∷ []) ++ rest
+      uri_tail = present (option_map byte_range item.part.range ∷ Some (uri text) ∷ []) ++ rest
 
       abbrev duration_tail : List WrittenLine
-      duration_tail = present (Some (duration digits item.duration) ∷ option_map byte_range item.part.range ∷ Some (uri item.part.address)
+      duration_tail = present (Some (duration digits item.duration) ∷ option_map byte_range item.part.range ∷ Some (uri text)
           ∷ []) ++ rest
 
       abbrev date_tail : Option ℤ → List WrittenLine
       date_tail date = present (option_map program_date_time date ∷ Some (duration digits item.duration)
-          ∷ option_map byte_range item.part.range ∷ Some (uri item.part.address) ∷ []) ++ rest
+          ∷ option_map byte_range item.part.range ∷ Some (uri text) ∷ []) ++ rest
 
       duration_clean : (s : State) → IsBetween s n → Clean url s duration_tail
       unfolding tag_of
@@ -115,12 +106,13 @@ module _ (url : List ℕ) where
       date_clean (Some instant) s between = step s (program_date_time instant) duration_tail (λ place. refl)
           (λ place. duration_clean s between)
 
-      own_clean : (former : Option ℕ) (s : State) → IsBetween s n → Clean url s (own_lines digits former item ++ rest)
+      own_clean : (former : Option ℕ) (s : State) → IsBetween s n → Clean url s (own_lines digits former (spelled_item beside item) ++ rest)
       unfolding tag_of
       own_clean former s between = elim (cases_Bool (begins_section former item.section)) [
-        | inl begins ↦ rw begins (step s (initialization item.map) (date_tail item.date)
-            (λ place. rw (map_taken url item.map.address is.map.address place item.map.range is.map.range taken.map) refl)
-            (λ place. date_clean item.date (after url s (said_at (initialization item.map) place))
+        | inl begins ↦ rw begins (step s (initialization (spelled_part beside item.map)) (date_tail item.date)
+            (λ place. rw (map_taken url item.map.address (spelled beside item.map.address) (spells item.map.address is.map.address) place
+            item.map.range is.map.range taken.map) refl)
+            (λ place. date_clean item.date (after url s (said_at (initialization (spelled_part beside item.map)) place))
             (record { lasting = between.lasting; range = between.range; count = between.count })))
         | inr other ↦ rw other (date_clean item.date s between)
       ]
@@ -137,16 +129,17 @@ module _ (url : List ℕ) where
 
     items_clean : (former : Option ℕ) (items : List Item) (n : ℕ) (rest : List WrittenLine) → n + length items ≤ 100_000
         → All (IsReadableItem digits) items → All (IsTakenItem digits) items → ((s : State) → Clean url s rest)
-        → (s : State) → IsBetween s n → Clean url s (items_lines digits former items ++ rest)
+        → (s : State) → IsBetween s n → Clean url s (items_lines digits former (spelled_items beside items) ++ rest)
     items_clean former [] n rest few_items all taken on s between = on s
     items_clean former (item ∷ items) n rest few_items all taken on s between =
-        let more = items_lines digits (Some item.section) items ++ rest in
+        let behind_it = items_lines digits (Some item.section) (spelled_items beside items) in
+        let more = behind_it ++ rest in
         let later = items_clean (Some item.section) items (suc n) rest (omega (arith, few_items))
         (All-tail (IsReadableItem digits) item items all)
         (All-tail (IsTakenItem digits) item items taken) on in
         let gaps = replicate (rise former item.section) discontinuity in
-        let own = own_lines digits former item in
-        rw (append_assoc (gaps ++ own) (items_lines digits (Some item.section) items) rest, append_assoc gaps own more)
+        let own = own_lines digits former (spelled_item beside item) in
+        rw (append_assoc (gaps ++ own) behind_it rest, append_assoc gaps own more)
         (gaps_clean (rise former item.section) n (own ++ more)
         (own_clean item (All-head (IsReadableItem digits) item items all) (All-head (IsTakenItem digits) item items taken) n
         (omega (arith, few_items)) more later former) s between)
@@ -160,10 +153,11 @@ module _ (url : List ℕ) where
 
   pub lines_clean : (head : Head) (items : List Item) → IsTakenHead head → head.digits ≤ 9 → length items ≤ 100_000
       → All (IsReadableItem head.digits) items → All (IsTakenItem head.digits) items
-      → Clean url nothing (media_lines head.target head.sequence (discontinuity_sequence head.first_section) head.digits items head.ended)
+      → Clean url nothing (media_lines head.target head.sequence (discontinuity_sequence head.first_section) head.digits
+      (spelled_items beside items) head.ended)
   unfolding tag_of
   lines_clean head items small few few_items all taken =
-      let body = items_lines head.digits None items ++ end_lines head.ended in
+      let body = items_lines head.digits None (spelled_items beside items) ++ end_lines head.ended in
       let from_kind = discontinuity_sequence head.first_section ∷ body in
       let from_sequence = media_sequence head.sequence ∷ from_kind in
       let from_target = target_duration head.target ∷ from_sequence in

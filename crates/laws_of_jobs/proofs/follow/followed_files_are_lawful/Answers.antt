@@ -1,0 +1,8 @@
+use Rattle.laws_of_jobs.proofs.Reloads.{files_are_lawful}
+use Rattle.laws_of_jobs.proofs.follow.followed_files_are_lawful.Goals as goal
+
+pub returns : goal.returns
+returns c =
+    let h = c.histories_go_on.ensures in
+    files_are_lawful h.begin h.goes_on h.refuse c.presentations_show_their_mpd.ensures.few h.accepted
+    c.read_trees_are_of_bytes.ensures.addresses c.followed_texts_reload.ensures.taken c.rules_are_sentences.ensures

@@ -1,0 +1,4 @@
+pub mod Faultless
+pub mod Parts
+pub mod Rounding
+pub mod Whole
