@@ -40,9 +40,9 @@ pub fn followed_files_reload()
     read_trees_are_of_bytes();
 }
 
-/// `reload` of a track's file before and after another accepted update frame reports a valid update, with the segments of both; except
-/// where a text is longer than 8,388,608 bytes, a target duration is 2^31 seconds or more, a segment lasts more than 1,000,000 seconds, or
-/// a byte range ends at 2^63.
+/// `reload` of a track's file before and after another accepted update frame reports a valid update, with the segments of both, where URLs
+/// are absolute, or both are read at the file's own URL; except where a text is longer than 8,388,608 bytes, a target duration is 2^31
+/// seconds or more, a segment lasts more than 1,000,000 seconds, or a byte range ends at 2^63.
 pub fn followed_files_are_lawful()
     ensures { FollowedFilesAreLawful }
 {
