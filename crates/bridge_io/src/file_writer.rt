@@ -48,6 +48,22 @@ impl<'a> FileWriter<'a> {
         ensures cause { HasCause Failed (F.write_faults store.old) (F.write_faults store.new) result }
         ensures reads { F.read_faults store.new ≡ F.read_faults store.old }
     {
+        if piece.len() <= PIECE {
+            return self.hold(store, piece);
+        }
+        self.push_parts(store, piece)
+    }
+
+    /// Adds a piece in parts of at most 4,096 bytes.
+    fn push_parts<F: Store>(&mut self, store: &mut F, piece: &[u8]) -> Result<(), Fail>
+        ensures target { target self.new ≡ target self.old }
+        ensures ok { OnOk result ((text : List ℕ) (first : Option Files) → IsBehind self.old text first (F.files store.old)
+            → IsBehind self.new (text ++ piece.now) first (F.files store.new)) }
+        ensures err { OnErr result ((text : List ℕ) (first : Option Files) → IsBehind self.old text first (F.files store.old)
+            → HasFront (target self.old) (text ++ piece.now) first (F.files store.new)) }
+        ensures cause { HasCause Failed (F.write_faults store.old) (F.write_faults store.new) result }
+        ensures reads { F.read_faults store.new ≡ F.read_faults store.old }
+    {
         let mut rest = piece;
         while !rest.is_empty() {
             let (front, back) = rest.split_at(rest.len().min(PIECE));

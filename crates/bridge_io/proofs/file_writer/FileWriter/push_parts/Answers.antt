@@ -1,4 +1,4 @@
-use Rattle.bridge_io.proofs.file_writer.FileWriter.push.Goals as goal
+use Rattle.bridge_io.proofs.file_writer.FileWriter.push_parts.Goals as goal
 use Rattle.std.proofs.{Common.{◌≡◌, ℕ, List, ◌++◌, take, drop, append_assoc, ◌∙◌, arith}, lemmas.List.take-append-drop}
 use Rattle.bridge_io.specs.Written.{target, front_of_whole}
 use Rattle.bridge_io.proofs.Files.{on_err}

@@ -1,4 +1,4 @@
-use Rattle.bridge_io.proofs.file_writer.FileWriter.push.Given as goal
+use Rattle.bridge_io.proofs.file_writer.FileWriter.push_parts.Given as goal
 use Rattle.std.proofs.Common.{◌≡◌, ℕ, List, ◌++◌, ◌≤◌, length, Option}
 use Rattle.bridge_io.specs.{Outside.Files, Written.{target, IsBehind}}
 
