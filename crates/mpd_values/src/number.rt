@@ -1,10 +1,9 @@
 // Numbers.
-ghost use Rattle.std.specs.Prelude.{◌≡◌, ◌+◌, ◌^◌, pos, option_map};
-ghost use Rattle.std.specs.List.{list_all};
-ghost use Rattle.std.specs.Char.{is_ascii_digit};
+ghost use Rattle.std.specs.Prelude.{◌≡◌, ◌+◌, ◌^◌, ◌==◌, pos, option_map, slice_index};
 ghost use Rattle.mpd_values.specs.Numbers as spec;
 
 use crate::blank::{Blank, trimmed};
+use fast_float::parse_u64;
 
 /// Reads a number of one ASCII digit or more, spaces around it dropped.
 ///
@@ -48,17 +47,18 @@ pub(crate) fn read_numeral(text: &str) -> Option<u64>
     ensures { result ≡ spec.kept_if (spec.is_between 0 (2 ^ 64)) (spec.numeral_of text.now) }
 {
     let digits = text.as_bytes();
-    if digits.is_empty() {
+    if has_plus(digits) {
         return None;
     }
-    let mut number = 0_u64;
-    for digit in digits {
-        if !digit.is_ascii_digit() {
-            return None;
-        }
-        number = number
-            .checked_mul(10)?
-            .checked_add(u64::from(digit - b'0'))?;
+    parse_u64(digits).ok()
+}
+
+#[inline(always)]
+fn has_plus(bytes: &[u8]) -> bool
+    ensures { result ≡ (slice_index bytes.now 0 == 43) }
+{
+    match bytes {
+        [b'+', ..] => true,
+        _ => false,
     }
-    Some(number)
 }
