@@ -1,3 +1,4 @@
 pub mod Choosing
 pub mod Fitting
 pub mod Showing
+pub mod Walking

@@ -1,9 +1,10 @@
 // Values of attributes.
-ghost use Rattle.std.specs.Prelude.{◌≡◌, IfOk, option_map};
+ghost use Rattle.std.specs.Prelude.{◌≡◌, IfOk, option_and_then, option_map};
 ghost use Rattle.mpd_tree.specs.Nodes.{element_of};
 ghost use Rattle.mpd_profile.specs.Heads.{value_named};
 ghost use Rattle.mpd_levels.specs.Fits.{number_within};
 ghost use Rattle.mpd_levels.specs.Readings as spec;
+ghost use Rattle.mpd_values.specs.Numbers.{number_between};
 
 use crate::shared_text::SharedText;
 use bridge_io::NoMemory;
@@ -17,7 +18,14 @@ use url_parts::{Range, read_range};
 pub(crate) fn number(node: Node<'_>, name: &str, least: u64, bound: u64) -> Option<u64>
     ensures { result ≡ number_within least bound name.now (element_of node.entry).head }
 {
-    read_number(value_named(node, name)?, least, bound)
+    number_in(value_named(node, name), least, bound)
+}
+
+/// The same of a text.
+pub(crate) fn number_in(text: Option<&str>, least: u64, bound: u64) -> Option<u64>
+    ensures { result ≡ option_and_then (number_between least bound) (option_map (λ text. text.now) text.entry) }
+{
+    read_number(text?, least, bound)
 }
 
 pub(crate) fn range(node: Node<'_>, name: &str) -> Option<Range>

@@ -1,17 +1,19 @@
 // What is stored once for all Representations.
-ghost use Rattle.std.specs.Prelude.{◌≡◌, [], IfOk, Some, codes, map, option_map, slice_get};
+ghost use Rattle.std.specs.Prelude.{◌≡◌, [], IfOk, Some, codes, map, option_and_then, option_map, slice_get};
 ghost use Rattle.mpd_tree.specs.Nodes.{element_of};
+ghost use Rattle.mpd_tree.specs.Views.{attribute_shown};
 ghost use Rattle.mpd_levels.specs.Fits.{FitsRun, FitsTimeline};
 ghost use Rattle.mpd_levels.specs.Segments.{run_of, runs_of, url_of, urls_in};
-ghost use Rattle.mpd_levels.specs.Readings.{children_named, signed_named};
-ghost use Rattle.mpd_profile.specs.Heads.{value_named};
+ghost use Rattle.mpd_levels.specs.Readings.{children_named, value_if};
+ghost use Rattle.mpd_profile.specs.Heads.{or_else, value_named};
+ghost use Rattle.mpd_values.specs.Numbers.{signed_64_of};
 ghost use Rattle.mpd_levels.specs.Shown as spec;
 
-use crate::readings::{count_named, number, range};
+use crate::readings::{count_named, number_in, range};
 use bridge_io::{NoMemory, Sequence, Text};
 use mpd_entries::{RefList, RefPart, SEntry, SList, SharedNames};
 use mpd_profile::value_named;
-use mpd_tree::Node;
+use mpd_tree::{Attr, Node};
 use mpd_values::read_signed;
 use std::alloc::Global;
 
@@ -87,22 +89,70 @@ pub(crate) fn read_timeline(alloc: Global, timeline: Node<'_>) -> Result<SList, 
     Ok(SList::from(entries))
 }
 
+/// The values of an S that are read.
+#[derive(Clone, Copy)]
+struct RunTexts<'a> {
+    t: Option<&'a str>,
+    d: Option<&'a str>,
+    r: Option<&'a str>,
+}
+
 fn read_run(s: Node<'_>) -> SEntry
     requires { FitsRun (element_of s) }
     ensures { result ≡ run_of (element_of s.entry) }
 {
+    let texts = run_texts(s);
     SEntry {
-        t: number(s, "t", 0, 1 << 63),
-        d: number(s, "d", 0, 1 << 63).unwrap_or(0),
-        r: read_repeat(s).unwrap_or(0),
+        t: number_in(texts.t, 0, 1 << 63),
+        d: number_in(texts.d, 0, 1 << 63).unwrap_or(0),
+        r: signed_in(texts.r).unwrap_or(0),
     }
 }
 
-fn read_repeat(s: Node<'_>) -> Option<i64>
-    requires { FitsRun (element_of s) }
-    ensures { result ≡ signed_named (codes "r") (element_of s.entry).head }
+/// Finds the values by one walk over the attributes.
+fn run_texts(s: Node<'_>) -> RunTexts<'_>
+    ensures t { option_map (λ text. text.now) result.t ≡ value_named (codes "t") (element_of s.entry).head }
+    ensures d { option_map (λ text. text.now) result.d ≡ value_named (codes "d") (element_of s.entry).head }
+    ensures r { option_map (λ text. text.now) result.r ≡ value_named (codes "r") (element_of s.entry).head }
 {
-    read_signed(value_named(s, "r")?)
+    let mut t: Option<&str> = None;
+    let mut d: Option<&str> = None;
+    let mut r: Option<&str> = None;
+    for attr in s.attributes() {
+        t = or_named(t, attr, "t");
+        d = or_named(d, attr, "d");
+        r = or_named(r, attr, "r");
+    }
+    RunTexts { t, d, r }
+}
+
+/// What was found before, or otherwise the value of an attribute that has the name.
+#[inline(always)]
+fn or_named<'a>(found: Option<&'a str>, attr: Attr<'a>, name: &str) -> Option<&'a str>
+    ensures { option_map (λ text. text.now) result ≡ or_else (option_map (λ text. text.now) found.entry)
+        (value_if name.now (attribute_shown attr.entry)) }
+{
+    match found {
+        Some(text) => Some(text),
+        None => value_if(attr, name),
+    }
+}
+
+#[inline(always)]
+fn value_if<'a>(attr: Attr<'a>, name: &str) -> Option<&'a str>
+    ensures { option_map (λ text. text.now) result ≡ value_if name.now (attribute_shown attr.entry) }
+{
+    if attr.name == name {
+        Some(attr.value)
+    } else {
+        None
+    }
+}
+
+fn signed_in(text: Option<&str>) -> Option<i64>
+    ensures { result ≡ option_and_then signed_64_of (option_map (λ text. text.now) text.entry) }
+{
+    read_signed(text?)
 }
 
 /// The SegmentURLs of an element; `None` exactly where it has none.

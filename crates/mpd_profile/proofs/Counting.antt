@@ -11,11 +11,11 @@ use Rattle.mpd_profile.specs.Values.{are_few_digits, has_room}
 model : IsNumeralModel (λ ds. all_ascii_digits ds ≡ true) (digits_value 10)
 model = numerals_by_value _ tells_all_ascii_digits
 
-both : (a b : Bool) → (a && b) ≡ true → (a ≡ true) × (b ≡ true)
+pub both : (a b : Bool) → (a && b) ≡ true → (a ≡ true) × (b ≡ true)
 both true b is = (refl, is)
 both false b none = absurd (cc)
 
-few_kept : (least bound : ℕ) (digits : List ℕ) → has_room least bound ≡ true → are_few_digits digits ≡ true
+pub few_kept : (least bound : ℕ) (digits : List ℕ) → has_room least bound ≡ true → are_few_digits digits ≡ true
     → is_some (kept_if (is_between least bound) (numeral_of digits)) ≡ true
 few_kept least bound digits room few =
     let parts = both (all_ascii_digits digits) _ few in
@@ -28,7 +28,7 @@ no_blank [] k digits below = absurd (omega arith)
 no_blank (b ∷ bs) zero digits below = let here = both (is_ascii_digit b) (list_all is_ascii_digit bs) digits in grind (arith, nat_tests)
 no_blank (b ∷ bs) (suc k) digits below = no_blank bs k (both (is_ascii_digit b) (list_all is_ascii_digit bs) digits).1 (omega arith)
 
-untrimmed : (text : List ℕ) → list_all is_ascii_digit text ≡ true → trimmed Space text ≡ text
+pub untrimmed : (text : List ℕ) → list_all is_ascii_digit text ≡ true → trimmed Space text ≡ text
 unfolding trimmed
 untrimmed text digits =
     let ends : length text - suffix_len (is_blank Space) text ≡ length text =

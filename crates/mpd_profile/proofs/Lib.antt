@@ -1,5 +1,6 @@
 pub mod Counting
 pub mod Passing
+pub mod Plain
 pub mod Sound
 pub mod Standing
 pub mod Telling

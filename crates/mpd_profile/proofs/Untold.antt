@@ -72,6 +72,11 @@ module _ (name : List ℕ) (short : is_short name ≡ true) where
 
 -- ---- the attributes that an S mostly has
 
+pub one_of_three : (t d r : Bool) → (t || (d || r)) ≡ true → (t ≡ true) ⊎ ((d ≡ true) ⊎ (r ≡ true))
+one_of_three true d r is = inl refl
+one_of_three false true r is = inr (inl refl)
+one_of_three false false r is = inr (inr is)
+
 module _ (a : Attribute) where
   abbrev renamed : List ℕ → Attribute
   renamed name = record { name = name; value = a.value; place = a.place }
@@ -79,11 +84,6 @@ module _ (a : Attribute) where
   by_name : (dynamic : Bool) (word : List ℕ) → bytes_eq a.name word ≡ true → None ≡ attribute_feature dynamic listed.S (renamed word)
       → None ≡ attribute_feature dynamic listed.S a
   by_name dynamic word same none = none ∙ ap (λ name. attribute_feature dynamic listed.S (renamed name)) (sym (same_bytes a.name word same))
-
-  one_of_three : (t d r : Bool) → (t || (d || r)) ≡ true → (t ≡ true) ⊎ ((d ≡ true) ⊎ (r ≡ true))
-  one_of_three true d r is = inl refl
-  one_of_three false true r is = inr (inl refl)
-  one_of_three false false r is = inr (inr is)
 
   pub entry_untold : (dynamic : Bool) → is_entry_value a.name ≡ true → None ≡ attribute_feature dynamic listed.S a
   entry_untold true is = elim (one_of_three (bytes_eq a.name (codes "t")) (bytes_eq a.name (codes "d")) (bytes_eq a.name (codes "r")) is) [

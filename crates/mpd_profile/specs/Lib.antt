@@ -4,6 +4,7 @@ pub mod Features
 pub mod Heads
 pub mod LeftOut
 pub mod Passes
+pub mod Plain
 pub mod Refusals
 pub mod Rows
 pub mod Sound

@@ -102,7 +102,7 @@ fn refused_feature(dynamic: bool, listed: Listed, attr: Attr<'_>) -> Option<Feat
 }
 
 /// Whether a name is one of the usual attributes of an S, none of which is a feature.
-fn is_entry_value(name: &str) -> bool
+pub(crate) fn is_entry_value(name: &str) -> bool
     ensures { result ≡ spec.is_entry_value name.now }
 {
     name == "t" || name == "d" || name == "r"

@@ -76,7 +76,7 @@ fn has_room(least: u64, bound: u64) -> bool
 }
 
 /// Whether a text is 1 to 18 digits.
-fn are_few_digits(text: &str) -> bool
+pub(crate) fn are_few_digits(text: &str) -> bool
     ensures { result ≡ are_few_digits text.now }
 {
     are_digits(text) && !text.is_empty() && text.len() <= 18

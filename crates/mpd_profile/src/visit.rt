@@ -1,6 +1,6 @@
 // What a pass checks at one element.
-ghost use Rattle.std.specs.Prelude.{◌≡◌, ◌||◌, List, [], Some};
-ghost use Rattle.std.specs.List.{list_any};
+ghost use Rattle.std.specs.Prelude.{◌≡◌, ◌||◌, List, [], Some, true};
+ghost use Rattle.std.specs.List.{list_all, list_any};
 ghost use Rattle.bridge_io.specs.Firsts.{first_fault};
 ghost use Rattle.mpd_tree.specs.Nodes.{element_of};
 ghost use Rattle.mpd_tree.specs.Trees.{Head};
@@ -9,14 +9,18 @@ ghost use Rattle.mpd_profile.specs.Behind.{IsBehind};
 ghost use Rattle.mpd_profile.specs.Features as features;
 ghost use Rattle.mpd_profile.specs.Heads.{or_else};
 ghost use Rattle.mpd_profile.specs.Passes.{addressing_of, told_by, visit_shown};
+ghost use Rattle.mpd_profile.specs.Plain.{feature_told, has_plain_values, is_plain_value};
 ghost use Rattle.mpd_profile.specs.Refusals as refusals;
+ghost use Rattle.mpd_profile.specs.declared.listed.Listed.TheVariants.{S};
+ghost use Rattle.mpd_profile.specs.declared.visit.Pass.TheVariants.{Both};
 
 use crate::fault::RuleFault;
-use crate::feature::{Feature, attribute_feature, element_feature, has_foreign};
+use crate::feature::{Feature, attribute_feature, element_feature, has_foreign, is_entry_value};
 use crate::heads::{is_short, value_named};
 use crate::listed::{Addressing, Listed};
 use crate::parent::Parent;
 use crate::siblings::Siblings;
+use crate::value::are_few_digits;
 use mpd_tree::{Attr, Node};
 
 /// What a pass checks.
@@ -59,10 +63,39 @@ impl<'a, 'b> Visit<'a, 'b> {
         match pass {
             Pass::Features => self.check_features(),
             Pass::Values(addressing) => self.check_values(addressing),
-            Pass::Both => {
-                self.check_features()?;
-                self.check_values(Addressing::Segments)
-            }
+            Pass::Both => self.check_both(),
+        }
+    }
+
+    #[tactic(auto, unfolding(crate::specs::Passes::told_by))]
+    fn check_both(&self) -> Result<(), RuleFault>
+        ensures { (before : List Head) → IsBehind self.now.siblings.now self.now.dynamic before
+            → result ≡ first_fault (told_by Both (visit_shown self.now before)) }
+    {
+        if self.is_plain_entry() {
+            return self.check_feature();
+        }
+        self.check_features()?;
+        self.check_values(Addressing::Segments)
+    }
+
+    /// Whether it is an S with nothing but numbers of few digits, as most are: no attribute is rejected.
+    fn is_plain_entry(&self) -> bool
+        ensures { result ≡ true → (self.now.listed ≡ Some S) × (has_plain_values (element_of self.now.node).head ≡ true) }
+    {
+        match self.listed {
+            Some(Listed::S) => has_plain_values(self.node),
+            _ => false,
+        }
+    }
+
+    fn check_feature(&self) -> Result<(), RuleFault>
+        ensures { (before : List Head) → IsBehind self.now.siblings.now self.now.dynamic before
+            → result ≡ first_fault (feature_told (visit_shown self.now before)) }
+    {
+        match self.feature() {
+            Some(feature) => Err(feature.at(self.node.place())),
+            None => Ok(()),
         }
     }
 
@@ -233,4 +266,24 @@ fn check_listed_features(node: Node<'_>, listed: Listed, dynamic: bool) -> Resul
         }
     }
     Ok(())
+}
+
+/// Whether an element has a duration, and nothing but the usual attributes of an S with numbers of few digits.
+fn has_plain_values(node: Node<'_>) -> bool
+    ensures { result ≡ has_plain_values (element_of node.entry).head }
+{
+    are_plain_values(node) && value_named(node, "d").is_some()
+}
+
+fn are_plain_values(node: Node<'_>) -> bool
+    ensures { result ≡ list_all is_plain_value (element_of node.entry).head.attributes }
+{
+    node.attributes().all(|attr| is_plain_value(attr))
+}
+
+#[tactic(auto, unfolding(crate::specs::Plain::is_plain_value))]
+fn is_plain_value(attr: Attr<'_>) -> bool
+    ensures { result ≡ is_plain_value (attribute_shown attr.entry) }
+{
+    is_entry_value(attr.name) && are_few_digits(attr.value)
 }

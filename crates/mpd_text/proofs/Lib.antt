@@ -5,6 +5,7 @@ pub mod KeptRows
 pub mod Loop
 pub mod Numbers
 pub mod Rests
+pub mod Roles
 pub mod TextLoop
 pub mod TreeReading
 pub mod Values

@@ -12,22 +12,42 @@ pub(crate) fn is_white(byte: u8) -> bool
     byte == b' ' || byte == b'\t' || byte == b'\n' || byte == b'\r'
 }
 
-/// The first byte of a name. All characters from U+0080 on are allowed.
-#[tactic(auto, unfolding(mpd_tree::specs::Characters::starts_name))]
+// What each byte is in a name: 2 where it may be the first one, 1 where it may be a later one only. All characters from
+// U+0080 on are allowed.
+#[rattlefmt::skip]
+static ROLES: [u8; 256] = [
+    0, 0, 0, 0, 0, 0, 0, 0, 0, 0, 0, 0, 0, 0, 0, 0,
+    0, 0, 0, 0, 0, 0, 0, 0, 0, 0, 0, 0, 0, 0, 0, 0,
+    0, 0, 0, 0, 0, 0, 0, 0, 0, 0, 0, 0, 0, 1, 1, 0,
+    1, 1, 1, 1, 1, 1, 1, 1, 1, 1, 2, 0, 0, 0, 0, 0,
+    0, 2, 2, 2, 2, 2, 2, 2, 2, 2, 2, 2, 2, 2, 2, 2,
+    2, 2, 2, 2, 2, 2, 2, 2, 2, 2, 2, 0, 0, 0, 0, 2,
+    0, 2, 2, 2, 2, 2, 2, 2, 2, 2, 2, 2, 2, 2, 2, 2,
+    2, 2, 2, 2, 2, 2, 2, 2, 2, 2, 2, 0, 0, 0, 0, 0,
+    2, 2, 2, 2, 2, 2, 2, 2, 2, 2, 2, 2, 2, 2, 2, 2,
+    2, 2, 2, 2, 2, 2, 2, 2, 2, 2, 2, 2, 2, 2, 2, 2,
+    2, 2, 2, 2, 2, 2, 2, 2, 2, 2, 2, 2, 2, 2, 2, 2,
+    2, 2, 2, 2, 2, 2, 2, 2, 2, 2, 2, 2, 2, 2, 2, 2,
+    2, 2, 2, 2, 2, 2, 2, 2, 2, 2, 2, 2, 2, 2, 2, 2,
+    2, 2, 2, 2, 2, 2, 2, 2, 2, 2, 2, 2, 2, 2, 2, 2,
+    2, 2, 2, 2, 2, 2, 2, 2, 2, 2, 2, 2, 2, 2, 2, 2,
+    2, 2, 2, 2, 2, 2, 2, 2, 2, 2, 2, 2, 2, 2, 2, 2,
+];
+
+/// The first byte of a name.
 #[inline(always)]
 pub(crate) fn starts_name(byte: u8) -> bool
     ensures { result ≡ starts_name byte }
 {
-    byte.is_ascii_alphabetic() || byte == b'_' || byte == b':' || byte >= 0x80
+    ROLES[usize::from(byte)] == 2
 }
 
 /// A later byte of a name.
-#[tactic(auto, unfolding(mpd_tree::specs::Characters::goes_on_name))]
 #[inline(always)]
 pub(crate) fn goes_on_name(byte: u8) -> bool
     ensures { result ≡ goes_on_name byte }
 {
-    starts_name(byte) || byte.is_ascii_digit() || byte == b'-' || byte == b'.'
+    ROLES[usize::from(byte)] != 0
 }
 
 #[inline(always)]

@@ -58,6 +58,7 @@ fn tag_end_of(bytes: &[u8]) -> Result<(bool, &[u8]), Stop>
 
 /// Reads an element's tag from its name on, with `room` nesting levels left, including its own.
 #[tactic(auto, unfolding(mpd_tree::specs::Grammar::tag))]
+#[inline(always)]
 fn tag_of<'a>(
     kept: &mut Kept<'a>,
     room: usize,

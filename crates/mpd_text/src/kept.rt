@@ -118,6 +118,7 @@ impl<'a> Kept<'a> {
     }
 
     #[tactic(auto, unfolding(mpd_tree::specs::Grammar::value))]
+    #[cold]
     fn read_value(&mut self, quote: u8, bytes: &'a [u8]) -> Result<(KeptSpan, &'a [u8]), Stop>
         requires quote { (quote ≡ 34) ⊎ (quote ≡ 39) }
         requires rest { IsBehind self.old.source.now bytes.now }
@@ -170,6 +171,7 @@ impl<'a> Kept<'a> {
     }
 
     /// Adds an attribute. Its name is the bytes up to the rest.
+    #[inline(always)]
     pub(crate) fn add_attribute(
         &mut self,
         bytes: &[u8],

@@ -42,6 +42,7 @@ impl<'a> ManyNames<'a> {
     }
 
     /// Adds a name after those of many attributes, and returns whether one of these has it.
+    #[cold]
     pub(crate) fn repeats(
         &mut self,
         bytes: &'a [u8],

@@ -13,6 +13,7 @@ use byte_scan::{ByteSet, first_of_set};
 use mpd_tree::{Stop, syntax};
 
 /// The bytes before the first one that ends plain text, and the bytes from it on.
+#[inline(always)]
 pub(crate) fn plain_of<'a>(marks: &ByteSet, bytes: &'a [u8]) -> (&'a [u8], &'a [u8])
     ensures plain { result.0.now ≡ (runs.plain_at marks.now bytes.now).0 }
     ensures rest { result.1.now ≡ (runs.plain_at marks.now bytes.now).1 }
@@ -63,6 +64,7 @@ fn add_marked<'a>(stop: u8, bytes: &'a [u8], read: &mut String) -> Result<(bool,
 }
 
 /// Appends what the leading text is read as, and returns the bytes from its end on. `bytes` is a suffix of the source.
+#[inline(always)]
 pub(crate) fn add_text<'a>(
     source: &str,
     stop: u8,
