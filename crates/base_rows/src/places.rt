@@ -23,7 +23,7 @@ fn tick(seconds: i32) -> Tick {
 }
 
 fn template(alloc: Global) -> Result<Names, Fail> {
-    let media = Template::read(alloc, "v-$Number$.m4s")?;
+    let media = MediaTemplate::of(alloc, Template::read(alloc, "v-$Number$.m4s")?)?;
     let id = Text::copy_of(alloc, "v")?;
     Ok(Names::of_template(media, id, 0, Base::of(alloc, "https://h.example/")?))
 }

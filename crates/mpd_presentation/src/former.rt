@@ -11,12 +11,13 @@ use mpd_rules::BaseWalk;
 use std::alloc::Global;
 use std::mem;
 use template_ids::{Template, TemplateFault};
+use timeline::MediaTemplate;
 use url_parts::{Address, Base, UrlFault};
 
 /// The results for the previous Representation, reused where the next one has the same.
 #[derive(Drop)]
 pub(crate) struct Former {
-    media: Option<Template>,
+    media: Option<MediaTemplate>,
     init: Option<Template>,
     /// The results of its BaseURLs, from the MPD down.
     steps: Vec<Step>,
@@ -49,17 +50,35 @@ impl Former {
     }
 
     /// The template of the segment URLs.
-    pub(crate) fn media(&mut self, alloc: Global, text: &str) -> Result<Template, TemplateFault>
+    pub(crate) fn media(
+        &mut self,
+        alloc: Global,
+        text: &str,
+    ) -> Result<MediaTemplate, TemplateFault>
         ensures { Gives (λ template. template) template_refusal result (template_of text.now) }
     {
-        template_by(alloc, text, &mut self.media)
+        if let Some(media) = &self.media {
+            if media.template().as_str() == text {
+                return Ok(media.share()?);
+            }
+        }
+        let media = MediaTemplate::of(alloc, Template::read(alloc, text)?)?;
+        self.media = Some(media.share()?);
+        Ok(media)
     }
 
     /// The template of the init segment's URL.
     pub(crate) fn init(&mut self, alloc: Global, text: &str) -> Result<Template, TemplateFault>
         ensures { Gives (λ template. template) template_refusal result (template_of text.now) }
     {
-        template_by(alloc, text, &mut self.init)
+        if let Some(template) = &self.init {
+            if template.as_str() == text {
+                return Ok(template.share()?);
+            }
+        }
+        let template = Template::read(alloc, text)?;
+        self.init = Some(template.share()?);
+        Ok(template)
     }
 
     /// The base that references give, each resolved against the one before.
@@ -122,22 +141,4 @@ impl Step {
             to,
         })
     }
-}
-
-/// A text as a template, shared with the previous one where it is the same.
-fn template_by(
-    alloc: Global,
-    text: &str,
-    former: &mut Option<Template>,
-) -> Result<Template, TemplateFault>
-    ensures { Gives (λ template. template) template_refusal result (template_of text.now) }
-{
-    if let Some(template) = former {
-        if template.as_str() == text {
-            return Ok(template.share()?);
-        }
-    }
-    let template = Template::read(alloc, text)?;
-    *former = Some(template.share()?);
-    Ok(template)
 }

@@ -23,7 +23,7 @@ use mpd_rules::{Addressing, PeriodView, RepView};
 use presentation::{Content, PresentationFault, Spot};
 use std::alloc::Global;
 use template_ids::{Ids, Template, TemplateFault};
-use timeline::{End, Names, RefList, Runs, Scale, SharedNames, TimeFault};
+use timeline::{End, MediaTemplate, Names, RefList, Runs, Scale, SharedNames, TimeFault};
 use url_parts::{Address, Base, Part, UrlFault};
 
 /// The most bytes that a URL has.
@@ -140,7 +140,7 @@ fn names_of(
     alloc: Global,
     row: &RepView<'_>,
     told: &Addressing<'_>,
-    media: Template,
+    media: MediaTemplate,
     base: Base,
 ) -> Result<Names, NoMemory>
     ensures { IfOk result (λ names. names ≡ spec.names_of (row_of row.now).description (addressed told.now) media base) }
@@ -184,7 +184,7 @@ fn media_of(
     told: &Addressing<'_>,
     place: Place,
     former: &mut Former,
-) -> Result<Template, PresentationFault>
+) -> Result<MediaTemplate, PresentationFault>
     ensures { Gives (λ template. template) refusal result (spec.media_of place (addressed told.now)) }
 {
     match former.media(alloc, told.media().unwrap_or("")) {

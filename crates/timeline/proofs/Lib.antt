@@ -5,6 +5,7 @@ pub mod Judged
 pub mod KeptLemmas
 pub mod Laid
 pub mod LimitLemmas
+pub mod MediaTemplates
 pub mod Naming
 pub mod NumberedLemmas
 pub mod OpenEnds

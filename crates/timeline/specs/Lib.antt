@@ -9,6 +9,7 @@ pub mod Laws
 pub mod Building
 pub mod Limits
 pub mod Listed
+pub mod MediaTemplates
 pub mod MediaTimelines
 pub mod Makers
 pub mod Names
@@ -18,6 +19,7 @@ pub mod Places
 pub mod Ratios
 pub mod Reaches
 pub mod Rows
+pub mod ShorterTemplates
 pub mod Spans
 pub mod Steady
 pub mod RunSegments

@@ -7,11 +7,11 @@ ghost use Rattle.timeline.specs.Names.{list_refusal, part_at};
 ghost use Rattle.url_parts.specs.Addresses.{resolve};
 ghost use Rattle.url_parts.specs.Paths.{IsBeneath};
 
-use crate::ListFault;
 use crate::short_names::{in_line, without_detours};
+use crate::{ListFault, MediaTemplate};
 use bridge_io::NoMemory;
 use std::alloc::Global;
-use template_ids::{Filled, Template};
+use template_ids::Filled;
 use url_parts::{Address, Base, Part, UrlFault};
 
 /// The most bytes that a URL has.
@@ -34,7 +34,7 @@ impl FilledNames {
     /// The names of a template with an id and a bandwidth, which are resolved against a base.
     pub fn of(
         alloc: Global,
-        media: &Template,
+        media: &MediaTemplate,
         id: &str,
         bandwidth: u64,
         base: &Base,
@@ -42,10 +42,13 @@ impl FilledNames {
         ensures { IfOk result (IsFilledBy media.now id.now bandwidth base.now) }
     {
         let _ = base.as_str(); // opens the value, for its invariant
-        if media.least_len(id, bandwidth) > MAX_URL_LEN && media.names_segments(id, bandwidth) {
+        let template = media.for_id(id);
+        if template.least_len(id, bandwidth) > MAX_URL_LEN
+            && template.names_segments(id, bandwidth)
+        {
             return Ok(FilledNames::Refused(UrlFault::TooLong));
         }
-        let names = media.filled(alloc, id, bandwidth)?;
+        let names = template.filled(alloc, id, bandwidth)?;
         let filled = shared(alloc, names, base)?;
         Ok(filled)
     }

@@ -18,6 +18,7 @@ mod listing;
 mod maker;
 mod media_run;
 mod media_runs;
+mod media_template;
 mod names;
 mod run;
 mod run_slice;
@@ -25,6 +26,7 @@ mod run_table;
 mod runs;
 mod shared_timeline;
 mod short_names;
+mod shorter_template;
 mod span;
 mod spans;
 mod time_walk;
@@ -40,6 +42,7 @@ pub use laws::{
     closed_ends, ends_rise, open_ends, own_addresses, own_addresses_made, starts_in_ticks,
 };
 pub use listing::{Listing, Segment};
+pub use media_template::MediaTemplate;
 pub use mpd_entries::{RefList, RefPart, SEntry, SList, SharedNames};
 pub use names::Names;
 pub use runs::Runs;

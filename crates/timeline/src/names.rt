@@ -10,10 +10,10 @@ ghost use Rattle.url_parts.specs.Addresses.{resolve};
 
 use crate::filled_names::FilledNames;
 use crate::maker::Maker;
-use crate::{ListFault, PartList, RefList, RefPart, SharedNames};
+use crate::{ListFault, MediaTemplate, PartList, RefList, RefPart, SharedNames};
 use bridge_io::{NoMemory, Text};
 use std::alloc::Global;
-use template_ids::{BorrowedIds, Filled, Template};
+use template_ids::{BorrowedIds, Filled};
 use url_parts::{Base, Part, Range, Resolver, UrlFault};
 
 /// The longest base, in bytes, where every file name in its folder gives a URL: the longest file name has 255 bytes, and
@@ -25,7 +25,7 @@ const MAX_BASE_LEN: usize = 1793;
 pub enum Names {
     /// A template with the Representation's id and bandwidth.
     Template {
-        media: Template,
+        media: MediaTemplate,
         id: Text,
         bandwidth: u64,
         base: Base,
@@ -59,7 +59,7 @@ impl Names {
     ghost use Rattle.timeline.specs.declared.names.Names.TheVariants.{Addresses as ByAddresses};
 
     /// Names by a template.
-    pub fn of_template(media: Template, id: Text, bandwidth: u64, base: Base) -> Names
+    pub fn of_template(media: MediaTemplate, id: Text, bandwidth: u64, base: Base) -> Names
         ensures { result ≡ ByTemplate media id bandwidth base }
     {
         Names::Template {
@@ -108,7 +108,7 @@ impl Names {
         ensures { result ≡ asks_for_time self.now }
     {
         match self {
-            Names::Template { media, .. } => media.uses_time(),
+            Names::Template { media, .. } => media.template().uses_time(),
             Names::List { .. } | Names::Shared { .. } | Names::Addresses { .. } => false,
         }
     }
@@ -125,7 +125,9 @@ impl Names {
                 bandwidth,
                 base,
             } => {
-                let files = media.names_files(alloc, id.as_str(), *bandwidth)?;
+                let files = media
+                    .template()
+                    .names_files(alloc, id.as_str(), *bandwidth)?;
                 Ok(base.as_str().len() <= MAX_BASE_LEN && files)
             }
             Names::List { .. } | Names::Shared { .. } | Names::Addresses { .. } => Ok(false),
@@ -147,7 +149,7 @@ impl Names {
                 base,
             } => {
                 let folder = base.begin(alloc, 0)?;
-                let names = media.filled(alloc, id.as_str(), *bandwidth)?;
+                let names = media.template().filled(alloc, id.as_str(), *bandwidth)?;
                 Ok(Some(Files { folder, names }))
             }
             Names::List { .. } | Names::Shared { .. } | Names::Addresses { .. } => Ok(None),
@@ -204,7 +206,7 @@ impl Names {
 fn named_part(
     alloc: Global,
     maker: &mut Maker,
-    media: &Template,
+    media: &MediaTemplate,
     ids: &BorrowedIds<'_>,
     base: &Base,
 ) -> Result<Part, ListFault>
@@ -222,7 +224,7 @@ fn named_part(
 fn filled_once(
     alloc: Global,
     filled: Option<FilledNames>,
-    media: &Template,
+    media: &MediaTemplate,
     ids: &BorrowedIds<'_>,
     base: &Base,
 ) -> Result<FilledNames, NoMemory>

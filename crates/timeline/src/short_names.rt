@@ -86,7 +86,8 @@ fn shortened_slot(alloc: Global, slot: &Slot, in_path: bool) -> Result<Slot, NoM
     })
 }
 
-fn shortened_text(alloc: Global, text: &str, in_path: bool) -> Result<String, NoMemory>
+/// A shorter text that stands for another one: as a part of a path, or as a part of any reference.
+pub fn shortened_text(alloc: Global, text: &str, in_path: bool) -> Result<String, NoMemory>
     ensures { IfOk result (λ short. IsShortened in_path text.now (string_bytes short)) }
 {
     if in_path {

@@ -7,7 +7,7 @@ use Rattle.timeline.proofs.Naming.{in_folder}
 told : (c : goal.Then-as_str-le-MAX_BASE_LEN) → c.in_ok-files-in-Template.files
     ≡ are_files (Template c.in-Template.media c.in-Template.id c.in-Template.bandwidth c.in-Template.base)
 told c = let room = rw c.as_str-in-Template.ensures.text at c.if-as_str-le-MAX_BASE_LEN.true in
-    let names = rw c.as_str.ensures at c.in_ok-files-in-Template.ensures in
+    let names = rw (c.template.ensures, c.as_str.ensures) at c.in_ok-files-in-Template.ensures in
     let fits : nat_le (length c.in-Template.base) 1793 ≡ true = grind (arith, nat_tests) in
     rw (names, fits) refl
 

@@ -11,7 +11,8 @@ returns-in_ok-names-in-Template c =
     record {
       folder = rw t.is c.in_ok-folder-in-Template.ensures.text;
       names_are = λ number time. rw t.is (c.in_ok-names-in-Template.ensures number time
-          ∙ ap (λ id. named t.media (ids_with id t.bandwidth number time)) c.as_str.ensures);
+          ∙ ap (λ id. named c.template.result.now (ids_with id t.bandwidth number time)) c.as_str.ensures
+          ∙ ap (λ media. named media (ids_with t.id t.bandwidth number time)) c.template.ensures);
       addressed = c.in_ok-are_files.ensures.named files;
       named = names_valid c.args.self.now (sym c.in_ok-are_files.ensures.told ∙ files);
     }
