@@ -7,7 +7,6 @@ ghost use Rattle.bridge_io.specs.Outside.{Changes};
 ghost use Rattle.bridge_io.specs.declared.out_fault.OutFault.TheVariants.{WriteFault};
 ghost use Rattle.iso_time.specs.Instant.{IsReadable};
 ghost use Rattle.mpd_rules.specs.Views.{segments_mpd};
-ghost use Rattle.live_meaning.specs.Laws.{IsTyped};
 ghost use Rattle.bridge_report.specs.Reading.{ReadsAs, halted};
 ghost use Rattle.bridge_report.specs.Refusals.{refused_in};
 ghost use Rattle.bridge_steps.specs.Endings.{JobEndsAs, around};
@@ -114,8 +113,7 @@ fn live_translation<L: Ledger>(
     mpd: &Mpd,
     steps: &mut Steps<L>,
 ) -> Result<Translation, Stop>
-    requires now { IfSome job.now.instant IsReadable }
-    requires typed { IsTyped (Some (segments_mpd mpd.now)) }
+    requires { IfSome job.now.instant IsReadable }
     ensures { Gives spec.translated refused_in result
         (spec.live_translation job.now url.now players job.now.instant (segments_mpd mpd.now)) }
 {

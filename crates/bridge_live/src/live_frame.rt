@@ -40,8 +40,7 @@ pub fn begin_session<L: Ledger>(
     now: Instant,
     steps: &mut Steps<L>,
 ) -> Result<Session, Stop>
-    requires now { IsReadable now }
-    requires typed { IsTyped (Some (segments_mpd mpd.now)) }
+    requires { IsReadable now }
     ensures state { let terms : Terms = record { url = url.now; digits = digits } in
         Gives (λ session. session) refused_in result (told_as spec.told_of (begun_of terms (segments_mpd mpd.now) now)) }
     ensures made { let terms : Terms = record { url = url.now; digits = digits } in

@@ -122,7 +122,7 @@ module _ (differ : PeriodIdsDiffer) (periods : SectionsArePeriods) (begins : His
       record { tree = read.tree; mpd = mpd; url = terms.url; now = Some now; typed = read.typed; presented = is.first.made } in
       let verified : IsVerified p digits =
       record { longest = map (longest_of p (10 ^ digits)) (tracks_of p); is = rw (is.first.counts, is.first.urls) refl } in
-      let known = first_in_force differ periods terms mpd now p (read.tree, read.typed) is.first in
+      let known = first_in_force periods terms mpd now p (λ live. (differ read.tree mpd read.typed live).once) is.first in
       let shows = begins terms mpd now s begun in
       let opened : s.common.opened ≡ p = ap (λ (s : State). s.common.opened) is.state in
       same s.common.opened digits files folder prefix players fit (rw opened (record {

@@ -1,15 +1,19 @@
 -- The state that a first MPD leaves is sound.
-use Rattle.std.proofs.Common.{◌≡◌, ℕ, ℤ, pos, List, [], ◌∷◌, map, length, Option, Some, None, Result, Ok, Err, refl, sym, ◌∙◌, ap, subst}
+use Rattle.std.proofs.Common.{◌≡◌, ℕ, ℤ, pos, Bool, List, [], ◌∷◌, map, length, Option, Some, None, Result, Ok, Err}
+use Rattle.std.proofs.Common.{refl, sym, ◌∙◌, ap, subst}
+use Rattle.std.proofs.lemmas.Simd.{map-map}
 use Rattle.std.proofs.{Common.arith, lemmas.List.length-map, lemmas.List.Elements.All-map, lemmas.List.FromFn.length-range_with_len}
-use Rattle.std.specs.{Prelude.{All, IfSome, filter}, Option.option_map_or}
-use Rattle.mpd_rules.specs.Laws.{PeriodIdsDiffer}
+use Rattle.std.specs.{Prelude.{All, IfSome, filter, unwrap_or}, Option.option_map_or}
+use Rattle.mpd_levels.specs.{declared.addressing.SegmentRow.SegmentRow, Segments.Segments}
+use Rattle.mpd_rules.specs.{Held.Held, Laws.{HaveIdsOnce, are_once}, Typed.period_with, Views.{segments_mpd, segments_told}}
+use Rattle.mpd_rules.specs.declared.rows.PeriodRow.{PeriodRow}
 use Rattle.presentation.specs.{declared.fault.PresentationFault.PresentationFault, Counting.tracks_of, Presented.{Following, Presented}}
 use Rattle.mpd_presentation.specs.{PresentedLaws.{PresentedAreFew, PresentedAreFollowed, SectionsArePeriods}, Told.presented_of}
 use Rattle.followed.specs.Durations.{last_behind}
 use Rattle.live_meaning.specs.{Updates.{Terms, Values, unit_of}, Segments.{Segment, listed_of, place_behind, segments_of}}
 use Rattle.live_meaning.specs.{Known.{Known, ids_of, is_new}, Histories.{Common, begun_common, begun_past, begun_with, numbering_of}}
 use Rattle.live_meaning.specs.States.{State, shown, track_of}
-use Rattle.live_meaning.specs.{Refusals.{Refusal, begun_by as begun_state, begun_of, first_refusal_of, ids_in}, Laws.IsTyped}
+use Rattle.live_meaning.specs.{Refusals.{Refusal, begun_by as begun_state, begun_of, first_refusal_of, ids_in}}
 use Rattle.live_meaning.proofs.{Histories.{IsFirst, first_allowed, told-segments}, Accepted.{IsInForce, first_in_force, known_grown}}
 use Rattle.live_meaning.proofs.Orders.{listed_numbered}
 use Rattle.live_judge.specs.{Changed.first_place, FirstStates.{FirstPeriodsStand, FirstStatesAreSound}, Known.StandsAt}
@@ -41,13 +45,14 @@ with_first P terms mpd now s is first =
     let at = at_first (first_refusal_of terms mpd now) terms mpd now (presented_of mpd terms.url (Some now)) s is in
     subst P at.3 (first at.0 (first_allowed terms mpd now at.0 at.1 at.2))
 
-module _ (differ : PeriodIdsDiffer) (sections : SectionsArePeriods) where
-  module _ (terms : Terms) (mpd : Values) (now : ℤ) (typed : IsTyped (Some mpd)) (p : Presented) (first : IsFirst terms mpd now p) where
+module _ (sections : SectionsArePeriods) where
+  module _ (terms : Terms) (mpd : Values) (now : ℤ) (once : HaveIdsOnce mpd.facts.live mpd.periods) (p : Presented)
+      (first : IsFirst terms mpd now p) where
     abbrev c : Common
     c = begun_common terms mpd now p
 
     force : IsInForce p c.known p
-    force = first_in_force differ sections terms mpd now p typed first
+    force = first_in_force sections terms mpd now p once first
 
     pub stands : StandsAt (ids_of c.known) (ids_in p) 0
     stands =
@@ -84,10 +89,17 @@ module _ (differ : PeriodIdsDiffer) (sections : SectionsArePeriods) where
       }
 
   pub first_states_are_sound : PresentedAreFew → PresentedAreFollowed → FirstStatesAreSound
-  first_states_are_sound few followed terms mpd now s typed is = with_first IsSound terms mpd now s is
-      (λ p first. sound terms mpd now typed p first few followed)
+  first_states_are_sound few followed terms mpd now s once is = with_first IsSound terms mpd now s is
+      (λ p first. sound terms mpd now once p first few followed)
 
   pub first_periods_stand : FirstPeriodsStand
-  first_periods_stand terms mpd now s typed is =
+  first_periods_stand terms mpd now s once is =
       with_first (λ s. StandsAt (ids_of s.common.known) (ids_in s.common.force) 0) terms mpd now s is
-      (λ p first. stands terms mpd now typed p first)
+      (λ p first. stands terms mpd now once p first)
+
+-- what is shown of an MPD keeps the ids of its Periods
+pub shown_once : (held : Held SegmentRow) (live : Bool) → live ≡ held.values.facts.live → HaveIdsOnce live held.values.periods
+    → HaveIdsOnce (segments_mpd held).facts.live (segments_mpd held).periods
+shown_once held live same once dynamic =
+    ap are_once (map-map (λ (period : PeriodRow (Option Segments)). unwrap_or period.id []) (period_with segments_told) held.values.periods)
+    ∙ once (same ∙ dynamic)

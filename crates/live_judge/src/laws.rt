@@ -3,14 +3,12 @@ ghost use Rattle.live_judge.specs.FirstStates.{FirstPeriodsStand, FirstStatesAre
 ghost use Rattle.live_judge.specs.SoundGoesOn.{KeptGoOn, NumbersGoOn, PeriodsStandOn, SoundStatesGoOn};
 
 use mpd_presentation::presentations_show_their_mpd;
-use mpd_rules::laws::period_ids_differ;
 
-/// The state after a first MPD is sound, and its Periods are all that are known.
+/// The state after a first MPD whose Periods have ids of their own is sound, and its Periods are all that are known.
 pub fn first_states_are_sound()
     ensures sound { FirstStatesAreSound }
     ensures stands { FirstPeriodsStand }
 {
-    period_ids_differ();
     presentations_show_their_mpd();
 }
 

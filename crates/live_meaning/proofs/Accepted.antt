@@ -14,7 +14,7 @@ use Rattle.std.proofs.{lemmas.Grind.div_ceil_times, lemmas.Nat.div-add-mod'}
 use Rattle.std.specs.Prelude.{is_none, slice_get, All, is_some, option_map, option_to_list}
 use Rattle.std.specs.{List.{list_all, list_any, position_or_len, starts_with, find, range_with_len}, Option.option_map_or}
 use Rattle.bridge_io.proofs.Texts.{bytes_eq_sym, equals_itself, same_bytes}
-use Rattle.mpd_rules.specs.Laws.{are_once, PeriodIdsDiffer, ids_of as ids_said}
+use Rattle.mpd_rules.specs.Laws.{are_once, HaveIdsOnce, PeriodIdsDiffer, ids_of as ids_said}
 use Rattle.live_meaning.specs.Segments.{place_of, Segment, id_at, listed_of, Kept, Numbering, listed_in_period, place_behind}
 use Rattle.live_meaning.specs.Segments.{segment_with}
 use Rattle.live_meaning.specs.Known.{Known, goes_on, goes_on_from, ids_of, is_new, known_by, Attributes, all_same, attributes_at}
@@ -314,13 +314,13 @@ listed_known c t is in_tracks = listed_have (IsKnown c.known t) (numbering_of c)
     let map = own_map c.force s t content is.filled less (omega (arith, in_tracks, is.tracks)) at in
     λ j d within. cc (there, own.1.1.0, own.1.1.1, map))
 
-module _ (differ : PeriodIdsDiffer) (sections : SectionsArePeriods) where
-  pub first_in_force : (terms : Terms) (mpd : Values) (now : ℤ) (p : Presented) → IsTyped (Some mpd) → IsFirst terms mpd now p
-      → IsInForce p (known_with [] p) p
-  first_in_force terms mpd now p typed first =
+module _ (sections : SectionsArePeriods) where
+  pub first_in_force : (terms : Terms) (mpd : Values) (now : ℤ) (p : Presented) → HaveIdsOnce mpd.facts.live mpd.periods
+      → IsFirst terms mpd now p → IsInForce p (known_with [] p) p
+  first_in_force terms mpd now p ids_once first =
       let same : ids_in p ≡ ids_said mpd.periods = ap (λ (ss : List Section). map (λ (section : Section). section.id) ss)
       (sections mpd terms.url (Some now) p first.made) ∙ map-map (λ (section : Section). section.id) section_of mpd.periods in
-      let once : are_once (ids_in p) ≡ true = ap are_once same ∙ (differ typed.0 mpd typed.1 first.live).once in
+      let once : are_once (ids_in p) ≡ true = ap are_once same ∙ ids_once first.live in
       record {
         last = subst (λ (ids : List (List ℕ)). AreLast ids (ids_in p)) (sym (known_grown [] p)) (last_at_first (ids_in p) once);
         sound = presented_sound mpd terms.url (Some now) p first.made;
@@ -391,12 +391,15 @@ still_known known more t x is =
     cc (get_more known more x.value.place k at)
 
 module _ (differ : PeriodIdsDiffer) (sections : SectionsArePeriods) where
+  once_if_typed : (mpd : Values) → IsTyped (Some mpd) → HaveIdsOnce mpd.facts.live mpd.periods
+  once_if_typed mpd typed live = (differ typed.0 mpd typed.1 live).once
+
   accepted_left : (terms : Terms) (history : List Update) → IsAccepted terms history → AreTyped history → (w : Whole)
       → whole_of terms history ≡ Some w → IsForced w.common × Each (IsTold w.common) w.pasts
   accepted_left terms = accepted_hold terms IsTyped IsForced IsTold (λ mpd now p typed first.
       let c : Common = begun_common terms mpd now p in
       let u : ℕ = unit_of terms in
-      let force : IsForced c = first_in_force differ sections terms mpd now p typed first in
+      let force : IsForced c = first_in_force sections terms mpd now p (once_if_typed mpd typed) first in
       let some : 1 ≤ u = one-le-pow terms.digits 10 (omega arith) in (
         force,
         λ t less. record {

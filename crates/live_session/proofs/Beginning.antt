@@ -27,7 +27,7 @@ use Rattle.live_meaning.specs.Histories.{Common, begun_common, begun_past, begun
 use Rattle.live_meaning.specs.Refusals.{Presentation, Refusal, Window as Windowed, begun_of, counts_listed, first_appended_by}
 use Rattle.live_meaning.specs.Refusals.{first_refusal_of, first_told_by, over_in_all, over_in_track, told_if, urls_in, urls_told}
 use Rattle.live_meaning.specs.{Refusals.{window_told, NotDynamic, ids_in}, Known.{Known, ids_of, known_at, known_with, periods_of}}
-use Rattle.live_meaning.specs.{Playlists.{item_of, playlist_with}, Laws.{HistoriesBegin, IsTyped, NeverEmpty, NumbersStaySmall, Shows}}
+use Rattle.live_meaning.specs.{Playlists.{item_of, playlist_with}, Laws.{HistoriesBegin, NeverEmpty, NumbersStaySmall, Shows}}
 use Rattle.live_meaning.proofs.{Histories.{negated, none_mapped, told_none}, Accepted.id_there, Playlists.few_known}
 use Rattle.live_judge.specs.{declared.fault.RefreshFault.RefreshFault, Faults.{Tells, of_presentation, told}}
 use Rattle.live_judge.specs.{declared.standing.Standing.Standing, Known.StandsAt, declared.track.LiveTrack.LiveTrack}
@@ -42,7 +42,7 @@ use Rattle.live_session.specs.{declared.made.MadeTrack.MadeTrack, declared.maker
 use Rattle.live_session.specs.Written.{AreDated, IsDated}
 use Rattle.live_session.proofs.{Addresses.{all_flat, same_over, urls_make}, Refusing.{some_as, told_as}, Sections.filter_all}
 use Rattle.live_session.proofs.{Accepting.grown_dated, Growing.{at_all, mapped_at}, Presenting.looked_same}
-use Rattle.mpd_rules.specs.Laws.{PeriodIdsDiffer, are_once}
+use Rattle.mpd_rules.specs.Laws.{HaveIdsOnce, are_once}
 
 -- ---- faults of counts
 
@@ -301,20 +301,20 @@ known_ids p =
     ∙ sym (fill_by_all (id_at p) (ids_in p) (length p.sections) [] (length-map p.sections _)
     (λ k less. get_or_from_slice_get (ids_in p) k (id_at p k) [] (id_there p.sections k less)))
 
-pub first_mpd : (differ : PeriodIdsDiffer) (sections : SectionsArePeriods) (followed : PresentedAreFollowed) (few : PresentedAreFew)
+pub first_mpd : (sections : SectionsArePeriods) (followed : PresentedAreFollowed) (few : PresentedAreFew)
     (terms : Terms) (mpd : Values) (now : ℤ) (p : Presented) → presented_of mpd terms.url (Some now) ≡ Ok p → first_judged mpd p ≡ []
-    → IsTyped (Some mpd) → IsFirstMpd terms mpd now p
-first_mpd differ sections followed few terms mpd now p made judged typed =
+    → HaveIdsOnce mpd.facts.live mpd.periods → IsFirstMpd terms mpd now p
+first_mpd sections followed few terms mpd now p made judged own =
     let counts = map Presentation (count_faults p) in
     let living = told_if (not mpd.facts.live) NotDynamic in
     let both = none_first (counts ++ living) (window_told (counts_listed p)) judged in
     let live = negated mpd.facts.live (told_none (not mpd.facts.live) NotDynamic (none_behind counts living both)) in
     let once : are_once (ids_in p) ≡ true = rw (sections mpd terms.url (Some now) p made, map-map)
-    (differ typed.0 mpd typed.1 live).once in
+    (own live) in
     record {
       made = made;
       judged = judged;
-      typed = typed;
+      once = own;
       counts = none_mapped Presentation (count_faults p) (none_first counts living both);
       looked = looked_same followed mpd now p terms.url made;
       start = rw (followed mpd terms.url (Some now) p made, live) refl;
@@ -362,7 +362,7 @@ module _ {terms : Terms} {mpd : Values} {now : ℤ} {p : Presented} (is : IsFirs
           terms = terms;
           history = Refresh mpd now ∷ [];
           shows = shows;
-          sound = sounds terms mpd now (state_shown s tracks) is.typed begun_as;
+          sound = sounds terms mpd now (state_shown s tracks) is.once begun_as;
           numbers = subst NumbersFit (sym standing.common)
               (record { resets = omega arith; periods = omega (arith, few_known [] p, is.few.0) });
           few = subst (λ (k : Common). length k.opened.tracks ≤ 200) (sym standing.common) is.few.1;

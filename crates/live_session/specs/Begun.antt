@@ -2,12 +2,13 @@
 use Rattle.std.specs.Prelude.{◌≡◌, ℕ, ◌+◌, ◌<◌, ◌≤◌, ℤ, pos, not, All, List, [], ◌∷◌, ◌++◌, length, map, replicate, unwrap_or, Some, Ok}
 use Rattle.std.specs.Prelude.{Err, IfSome}
 use Rattle.iso_time.specs.Instant.{IsReadable}
+use Rattle.mpd_rules.specs.Laws.{HaveIdsOnce}
 use Rattle.presentation.specs.{Counting.count_faults, Presented.{Presented, looked_at}}
 use Rattle.mpd_presentation.specs.Told.{presented_of}
 use Rattle.live_meaning.specs.{Updates.{Refresh, Terms, Values}, Segments.{id_at, place_of}, Known.{ids_of, known_with}}
 use Rattle.live_meaning.specs.{Histories.{Common, availability_start_of, begun_common}, States.{State, Track, new_count}}
 use Rattle.live_meaning.specs.Refusals.{NotDynamic, Presentation, Refusal, begun_of, counts_listed, first_appended_by, ids_in, told_if}
-use Rattle.live_meaning.specs.{Refusals.{urls_told, window_told}, Laws.{IsTyped, Shows}}
+use Rattle.live_meaning.specs.{Refusals.{urls_told, window_told}, Laws.Shows}
 use Rattle.live_judge.specs.{declared.fault.RefreshFault.RefreshFault, declared.standing.Standing.Standing}
 use Rattle.live_judge.specs.{declared.track.LiveTrack.LiveTrack, Faults.told, Known.StandsAt, Shown.{common_shown, track_shown}}
 use Rattle.live_session.specs.{Growth.tracks_grown, Kept.{AreSideBySide, empty_track}, Sessions.CountsRefused, Written.AreDated}
@@ -50,7 +51,7 @@ pub record IsFirstStanding (terms : Terms) (mpd : Values) (now : ℤ) (p : Prese
 pub record IsFirstMpd (terms : Terms) (mpd : Values) (now : ℤ) (p : Presented) : Type 0 where
   pub made : presented_of mpd terms.url (Some now) ≡ Ok p
   pub judged : first_judged mpd p ≡ []
-  pub typed : IsTyped (Some mpd)
+  pub once : HaveIdsOnce mpd.facts.live mpd.periods
   pub counts : count_faults p ≡ []
   pub looked : looked_at now p ≡ p
   pub start : unwrap_or mpd.facts.availability_start (pos 0) ≡ availability_start_of p

@@ -60,7 +60,7 @@ pub(crate) fn reserve(track: &mut LiveTrack, more: usize) -> Result<(), NoMemory
     make_room(&mut track.facts, more)
 }
 
-/// Reserves room for `more` members of a ring.
+/// Reserves room for `more` members of a ring, and where it grows for an eighth more than it had.
 fn make_room<T: Drop>(ring: &mut HeapCircularBuffer<T>, more: usize) -> Result<(), NoMemory>
     requires { more < 2 ^ 63 }
     ensures items { ring.new.items ≡ ring.old.items }
@@ -68,7 +68,8 @@ fn make_room<T: Drop>(ring: &mut HeapCircularBuffer<T>, more: usize) -> Result<(
 {
     let needed = ring.len() + more;
     if needed > ring.capacity() {
-        ring.resize(needed.max(ring.capacity().saturating_mul(2)))?;
+        let grown = ring.capacity().saturating_add(ring.capacity() / 8);
+        ring.resize(needed.max(grown))?;
     }
     Ok(())
 }

@@ -9,7 +9,7 @@ ghost use Rattle.bridge_io.specs.declared.out_fault.OutFault.TheVariants.{WriteF
 ghost use Rattle.iso_time.specs.Instant.{IsReadable};
 ghost use Rattle.mpd_rules.specs.Views.{segments_mpd};
 ghost use Rattle.presentation.specs.Counting.{count_of_all, counted};
-ghost use Rattle.live_meaning.specs.Laws.{IsTyped, Shows};
+ghost use Rattle.live_meaning.specs.Laws.{Shows};
 ghost use Rattle.live_meaning.specs.Playlists.{playlist_of};
 ghost use Rattle.live_meaning.specs.Refusals.{appended_by, begun_of, first_appended_by, next_of};
 ghost use Rattle.live_meaning.specs.Updates.{Refresh, Reset, Terms, Tick, Update};
@@ -34,7 +34,6 @@ use live_judge::{
 use live_meaning::{histories_go_on, playlists_are_never_empty};
 use mpd_presentation::{from_mpd, presentations_show_their_mpd};
 use mpd_rules::Mpd;
-use mpd_rules::laws::period_ids_differ;
 use presentation::Presentation;
 use std::alloc::Global;
 use std::marker::Model;
@@ -71,8 +70,6 @@ pub struct Appended(pub u64);
 impl Session {
     /// Begins a session with a first MPD, which has to be dynamic. `base` is the MPD's own URL; durations are printed with this
     /// number of decimals.
-    ///
-    /// Requires that the MPD's values are those of a valid MPD, as `rules` returns them.
     #[tactic(auto, using(crate::proofs::Refusing::begun_next))]
     pub fn begin<L: Ledger>(
         alloc: Global,
@@ -83,7 +80,6 @@ impl Session {
         steps: &mut Steps<L>,
     ) -> Result<Session, RefreshFault>
         requires now { IsReadable now }
-        requires typed { IsTyped (Some (segments_mpd mpd.now)) }
         ensures next { let terms : Terms = record { url = base.now; digits = digits } in
             Gives (λ session. session) told result (begun_of terms (segments_mpd mpd.now) now) }
         ensures history { let terms : Terms = record { url = base.now; digits = digits } in
@@ -91,7 +87,7 @@ impl Session {
         ensures counted { let terms : Terms = record { url = base.now; digits = digits } in
             Counts (first_appended_by terms (segments_mpd mpd.now) now) steps.old steps.new result }
     {
-        period_ids_differ();
+        let _ = mpd.live(); // tells that no two Periods have one id
         presentations_show_their_mpd();
         let opened = from_mpd(alloc, mpd, base, Some(now))?;
         check_first(mpd, &opened)?;

@@ -1,6 +1,7 @@
 -- The ids of the Periods of a dynamic MPD.
 use Rattle.std.proofs.Common.{◌≡◌, ℕ, ◌||◌, not, Bool, true, false, List, [], ◌∷◌, ◌++◌, All, map, Option, Some, None, refl, sym, ◌∙◌, ap}
 use Rattle.std.proofs.{Common.{subst, inl, inr}, lemmas.Bool.{and_parts, cases_Bool, or_parts}, lemmas.List.Concat.flat_map-append}
+use Rattle.std.proofs.lemmas.Simd.{map-map}
 use Rattle.std.proofs.lemmas.List.Elements.{All-cons, All-head, All-map, All-nil, All-tail, All-weaker}
 use Rattle.std.proofs.lemmas.List.Folds.{list_any-append, list_any_none}
 use Rattle.std.specs.Prelude.{bytes_eq, codes, filter, find, flat_map, if◌then◌else◌, is_none, is_some, option_map, unwrap_or}
@@ -16,10 +17,12 @@ use Rattle.mpd_profile.specs.Refusals.{lacks, refusals_of, required_of, root_ref
 use Rattle.mpd_profile.specs.Visits.{Parent, Visit, inside, parent_in, root_parent, root_visit, visits_in}
 use Rattle.mpd_levels.specs.Segments.{Segments, segments_of}
 use Rattle.mpd_rules.specs.{declared.rows.PeriodRow.PeriodRow, Kept.{is_kept, periods_of}}
-use Rattle.mpd_rules.specs.Laws.{HaveOwnIds, PeriodIdsDiffer, are_once, ids_of}
+use Rattle.mpd_rules.specs.Laws.{HasIdsOnce, HaveIdsOnce, HaveOwnIds, PeriodIdsDiffer, are_once, ids_of}
 use Rattle.mpd_rules.specs.{Periods.{bounds_from, end_said, first_start, start_of, timed_of, total_of}, Readings.id_of}
 use Rattle.mpd_rules.specs.Rules.{all_refusals, dash_values, refusals_behind, segments_refused, typed_mpd_of}
-use Rattle.mpd_rules.specs.Typed.{TypedMpd, period_of, values_with}
+use Rattle.mpd_rules.specs.Typed.{TypedMpd, facts_of, period_of, period_with, values_with}
+use Rattle.mpd_rules.specs.{Built.{period_shown, periods_shown}, Held.keyed, Periods.timed_periods, declared.facts.Facts.Facts}
+use Rattle.mpd_levels.specs.declared.tables.Tables.{Tables}
 use Rattle.mpd_rules.proofs.Refusing.{none_told}
 
 -- ---- nothing told
@@ -42,6 +45,9 @@ found_untold f test (y ∷ ys) x none is =
       | inl here ↦ let same : y ≡ x = cc (rw here at is) in rw (← same) (both.0, here)
       | inr other ↦ found_untold f test ys x both.1 (rw other at is)
     ]
+
+abbrev id_said : {X : Type 0} → PeriodRow X → List ℕ
+id_said period = unwrap_or period.id []
 
 abbrev id_in : Element → List ℕ
 id_in e = unwrap_or (id_of e) []
@@ -162,36 +168,58 @@ module _ (addressing : Addressing) (root : Head) where
 
 -- ---- an MPD
 
-module _ (tree : Element) where
+module _ {X : Type 0} (told : List Element → X) (tree : Element) where
   ids_said : (total default : Option ℕ) (periods : List Element) → ids_of
-      (map (period_of segments_of tree) (map timed_of (bounds_from total default periods))) ≡ map id_in periods
+      (map (period_of told tree) (map timed_of (bounds_from total default periods))) ≡ map id_in periods
   ids_said total default [] = refl
   ids_said total default (e ∷ periods) = ap (λ ids. id_in e ∷ ids) (ids_said total (end_said (start_of default e) e) periods)
 
   ids_there : (total default : Option ℕ) (periods : List Element) → All (λ e. is_some (id_of e) ≡ true) periods
-      → All (λ (period : PeriodRow (Option Segments)). is_some period.id ≡ true)
-      (map (period_of segments_of tree) (map timed_of (bounds_from total default periods)))
-  ids_there total default [] all = All-nil (λ (period : PeriodRow (Option Segments)). is_some period.id ≡ true)
+      → All (λ (period : PeriodRow X). is_some period.id ≡ true)
+      (map (period_of told tree) (map timed_of (bounds_from total default periods)))
+  ids_there total default [] all = All-nil (λ (period : PeriodRow X). is_some period.id ≡ true)
   ids_there total default (e ∷ periods) all =
-      All-cons (λ (period : PeriodRow (Option Segments)). is_some period.id ≡ true) _ _
+      All-cons (λ (period : PeriodRow X). is_some period.id ≡ true) _ _
       (All-head (λ e. is_some (id_of e) ≡ true) e periods all)
       (ids_there total (end_said (start_of default e) e) periods (All-tail (λ e. is_some (id_of e) ≡ true) e periods all))
 
+-- an MPD of which nothing is told
+periods_new : (addressing : Addressing) (tree : Element) → refusals_of addressing tree ≡ [] → is_dynamic tree.head ≡ true
+    → AreNew addressing tree.head [] (periods_of tree)
+unfolding refusals_of value_refusals
+periods_new addressing tree none dynamic =
+    let values = (none_both (root_refusals tree ++ feature_refusals tree) (value_refusals addressing tree) none).1 in
+    let inside = (none_both (values_at addressing (root_visit tree.head))
+    (flat_map (values_at addressing) (visits_in addressing (root_parent tree.head) [] tree.children)) values).1 in
+    all_new addressing tree.head [] tree.children (rw dynamic at inside)
+
+pub ids_once : (addressing : Addressing) (tree : Element) → refusals_of addressing tree ≡ [] → HasIdsOnce tree
+ids_once addressing tree none dynamic = (periods_new addressing tree none dynamic).once
+
+-- rows keep the ids
+pub rows_once : {X S : Type 0} (told : List Element → Option S) (shown : Tables → X → S) (tables : Tables) (tree : Element) (facts : Facts)
+    (rows : List (PeriodRow X)) → HasIdsOnce tree → facts ≡ facts_of tree.head
+    → periods_shown shown tables rows ≡ map (period_of told tree) (timed_periods tree)
+    → HaveIdsOnce facts.live (map (period_with (keyed tables)) rows)
+rows_once told shown tables tree facts rows once are_facts are live =
+    let dynamic : is_dynamic tree.head ≡ true = ap (λ (f : Facts). f.live) (sym are_facts) ∙ live in
+    let same : ids_of (map (period_with (keyed tables)) rows) ≡ ids_of (periods_shown shown tables rows) =
+    map-map id_said (period_with (keyed tables)) rows ∙ sym (map-map id_said (period_shown shown tables) rows) in
+    ap are_once (same ∙ ap (λ ps. ids_of ps) are ∙ ids_said told tree (total_of tree.head) (first_start tree.head) (periods_of tree))
+    ∙ once dynamic
+
 pub period_ids_differ : PeriodIdsDiffer
-unfolding typed_mpd_of all_refusals dash_values refusals_of value_refusals
+unfolding typed_mpd_of all_refusals dash_values
 period_ids_differ tree mpd is live =
     let behind = refusals_behind true segments_refused segments_of tree in
     let told = none_told (refusals_of OneByOne tree ++ behind) (values_with segments_of tree) mpd (sym is) in
     let profile = (none_both (refusals_of OneByOne tree) behind told.0).0 in
-    let values = (none_both (root_refusals tree ++ feature_refusals tree) (value_refusals OneByOne tree) profile).1 in
-    let inside = (none_both (values_at OneByOne (root_visit tree.head))
-    (flat_map (values_at OneByOne) (visits_in OneByOne (root_parent tree.head) [] tree.children)) values).1 in
     let dynamic : is_dynamic tree.head ≡ true = ap (λ (m : TypedMpd (Option Segments)). m.facts.live) (sym told.1) ∙ live in
-    let new = all_new OneByOne tree.head [] tree.children (rw dynamic at inside) in
+    let new = periods_new OneByOne tree profile dynamic in
     let total = total_of tree.head in
     let first = first_start tree.head in
     subst (λ (m : TypedMpd (Option Segments)). HaveOwnIds m.periods) (sym told.1) (record {
-      there = ids_there tree total first (periods_of tree) (All-weaker (IsNew OneByOne tree.head []) (λ e. is_some (id_of e) ≡ true)
-          (λ e is. is.there) (periods_of tree) new.each);
-      once = ap are_once (ids_said tree total first (periods_of tree)) ∙ new.once;
+      there = ids_there segments_of tree total first (periods_of tree)
+          (All-weaker (IsNew OneByOne tree.head []) (λ e. is_some (id_of e) ≡ true) (λ e is. is.there) (periods_of tree) new.each);
+      once = ap are_once (ids_said segments_of tree total first (periods_of tree)) ∙ new.once;
     })

@@ -3,8 +3,9 @@ use Rattle.std.specs.Prelude.{◌≡◌, ℕ, ◌&&◌, not, Bool, true, List, [
 use Rattle.std.specs.List.{list_any}
 use Rattle.iso_time.specs.Instant.{IsReadable}
 use Rattle.mpd_tree.specs.Trees.{Element}
+use Rattle.mpd_profile.specs.Heads.{is_dynamic}
 use Rattle.mpd_levels.specs.Segments.{Segments}
-use Rattle.mpd_rules.specs.{declared.rows.PeriodRow.PeriodRow, Rules.typed_mpd_of, Typed.TypedMpd}
+use Rattle.mpd_rules.specs.{declared.rows.PeriodRow.PeriodRow, Kept.periods_of, Readings.id_of, Rules.typed_mpd_of, Typed.TypedMpd}
 
 -- ---- the ids of Periods (ISO/IEC 23009-1, 5.3.2.2)
 
@@ -20,6 +21,13 @@ ids_of periods = map (λ (period : PeriodRow _). unwrap_or period.id []) periods
 pub record HaveOwnIds {X : Type 0} (periods : List (PeriodRow X)) : Type 0 where
   pub there : All (λ (period : PeriodRow X). is_some period.id ≡ true) periods
   pub once : are_once (ids_of periods) ≡ true
+
+abbrev pub HaveIdsOnce : {X : Type 0} → (live : Bool) → List (PeriodRow X) → Type 0
+HaveIdsOnce live periods = live ≡ true → are_once (ids_of periods) ≡ true
+
+-- the same of the elements of an MPD
+abbrev pub HasIdsOnce : Element → Type 0
+HasIdsOnce mpd = is_dynamic mpd.head ≡ true → are_once (map (λ period. unwrap_or (id_of period) []) (periods_of mpd)) ≡ true
 
 abbrev pub PeriodIdsDiffer : Type 0
 PeriodIdsDiffer = (tree : Element) (mpd : TypedMpd (Option Segments)) → typed_mpd_of tree ≡ Ok mpd → mpd.facts.live ≡ true

@@ -4,6 +4,7 @@ ghost use Rattle.bridge_io.specs.Answer.{Gives};
 ghost use Rattle.mpd_tree.specs.Nodes.{element_of, root_of};
 ghost use Rattle.mpd_profile.specs.Refusals.{refusal};
 ghost use Rattle.mpd_rules.specs.Fits.{FitsMpd};
+ghost use Rattle.mpd_rules.specs.Laws.{HasIdsOnce};
 ghost use Rattle.mpd_rules.specs.Rules.{indexed_mpd_of, refusals_behind, typed_mpd_of, unless_refused, silence_in, silence_told};
 ghost use Rattle.mpd_rules.specs.Rules.{static_told, is_silent, is_played};
 ghost use Rattle.mpd_rules.specs.Typed.{values_with};
@@ -47,7 +48,8 @@ pub fn rules_indexed(alloc: Global, tree: &Tree) -> Result<TypedMpd<FileIndex>, 
 /// The values of an MPD whose elements and attributes are all valid, or the error of the first invalid Period or
 /// Representation. Unless `many` Periods are allowed, it has to be static with one Period.
 fn values<X: FromLevels>(alloc: Global, mpd: Node<'_>, many: bool) -> Result<TypedMpd<X>, RuleFault>
-    requires { FitsMpd (element_of mpd) }
+    requires fits { FitsMpd (element_of mpd) }
+    requires ids { HasIdsOnce (element_of mpd) }
     ensures { Gives (mpd_shown X.shown) refusal result (unless_refused (refusals_behind many X.refused X.of (element_of mpd.entry))
         (values_with X.of (element_of mpd.entry))) }
 {

@@ -24,18 +24,21 @@ impl<X> Model for TypedMpd<X> {
     ghost use Rattle.std.specs.Prelude.{IfSome, length};
     ghost use Rattle.iso_time.specs.Instant.{IsReadable};
     ghost use Rattle.mpd_rules.specs.Held.{Held, held_of};
+    ghost use Rattle.mpd_rules.specs.Laws.{HaveIdsOnce};
 
     ghost Value = { Held X };
 
     ghost view = { λ m. held_of m.tables m.facts (length m.left_out) m.periods };
 
-    ghost invariant = { λ m. IfSome m.facts.availability_start IsReadable };
+    ghost invariant = { λ m. IfSome m.facts.availability_start IsReadable
+        × HaveIdsOnce m.facts.live (held_of m.tables m.facts (length m.left_out) m.periods).values.periods };
 }
 
 impl<X> TypedMpd<X> {
     ghost use Rattle.std.specs.Prelude.{IfSome, length};
     ghost use Rattle.iso_time.specs.Instant.{IsReadable};
     ghost use Rattle.mpd_rules.specs.Held.{held_of};
+    ghost use Rattle.mpd_rules.specs.Laws.{HaveIdsOnce};
     ghost use Rattle.mpd_rules.specs.Views.{periods_left, tables_under};
 
     pub(crate) fn of(
@@ -44,7 +47,8 @@ impl<X> TypedMpd<X> {
         tables: Tables,
         periods: Sequence<PeriodRow<X>>,
     ) -> TypedMpd<X>
-        requires { IfSome facts.availability_start IsReadable }
+        requires start { IfSome facts.availability_start IsReadable }
+        requires ids { HaveIdsOnce facts.live (held_of tables facts (length left_out) periods).values.periods }
         ensures { result ≡ held_of tables facts (length left_out) periods }
     {
         TypedMpd {
@@ -55,9 +59,10 @@ impl<X> TypedMpd<X> {
         }
     }
 
-    /// Whether it is dynamic (ISO/IEC 23009-1, 5.3.1.2).
+    /// Whether it is dynamic (ISO/IEC 23009-1, 5.3.1.2). Then no two Periods have one id.
     pub fn live(&self) -> bool
-        ensures { result ≡ self.now.values.facts.live }
+        ensures live { result ≡ self.now.values.facts.live }
+        ensures ids { HaveIdsOnce result self.now.values.periods }
     {
         self.facts.live
     }

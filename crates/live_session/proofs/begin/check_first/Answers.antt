@@ -13,9 +13,9 @@ returns-in-Err c =
 pub returns-then-not-live : goal.returns-then-not-live
 returns-then-not-live c =
     let off : c.live.result ≡ false = search rules in
-    rw (count_none c.args.opened.now c.in-Ok.field-0 (sym c.count.ensures ∙ c.in-Ok.is), sym c.live.ensures ∙ off) (refl, refl)
+    rw (count_none c.args.opened.now c.in-Ok.field-0 (sym c.count.ensures ∙ c.in-Ok.is), sym c.live.ensures.live ∙ off) (refl, refl)
 
 pub returns : goal.returns
 returns c =
     let on : c.live.result ≡ true = search rules in
-    rw (count_none c.args.opened.now c.in-Ok.field-0 (sym c.count.ensures ∙ c.in-Ok.is), sym c.live.ensures ∙ on) c.check_window.ensures
+    rw (count_none c.args.opened.now c.in-Ok.field-0 (sym c.count.ensures ∙ c.in-Ok.is), sym c.live.ensures.live ∙ on) c.check_window.ensures

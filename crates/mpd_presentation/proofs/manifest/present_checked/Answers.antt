@@ -12,7 +12,7 @@ all_told-requires c =
 
 pub present-requires-clause-filled : goal.present-requires-clause-filled
 present-requires-clause-filled c =
-    let told = rw (c.live.ensures, c.periods.ensures.periods) at c.in-Ok.ensures in
+    let told = rw (c.live.ensures.live, c.periods.ensures.periods) at c.in-Ok.ensures in
     let periods = c.args.mpd.now.values.periods in
     ap length told.parts.contents ∙ length-map told.tolds (λ (told : PeriodContent). told.content)
     ∙ all_filled c.args.base.now c.args.mpd.now.values.facts.live _ (map (period_with shown) periods) told.tolds c.requires told.told
@@ -20,15 +20,15 @@ present-requires-clause-filled c =
 
 pub present-requires-clause-ended : goal.present-requires-clause-ended
 present-requires-clause-ended c =
-    let told = rw (c.live.ensures, c.periods.ensures.periods) at c.in-Ok.ensures in
+    let told = rw (c.live.ensures.live, c.periods.ensures.periods) at c.in-Ok.ensures in
     λ ended. rw told.parts.contents (all_ended c.closed_ends.ensures.timelines c.closed_ends.ensures.durations c.args.base.now
     c.args.mpd.now.values.facts.live (map (period_with shown) c.args.mpd.now.values.periods) told.tolds told.told ended)
 
 pub returns-in-Ok : goal.returns-in-Ok
 returns-in-Ok c =
-    let told = rw (c.live.ensures, c.periods.ensures.periods) at c.in-Ok.ensures in
+    let told = rw (c.live.ensures.live, c.periods.ensures.periods) at c.in-Ok.ensures in
     presented_parts (segments_mpd c.args.mpd.now) c.args.base.now c.args.now c.in-Ok.parted told ∙ ap Ok (sym c.in_ok-present-in-Ok.ensures)
 
 pub returns : goal.returns
 returns c = presented_fault (segments_mpd c.args.mpd.now) c.args.base.now c.args.now c.in-Err.fault
-    (rw (c.live.ensures, c.periods.ensures.periods) at c.in-Err.ensures)
+    (rw (c.live.ensures.live, c.periods.ensures.periods) at c.in-Err.ensures)

@@ -6,7 +6,7 @@ use Rattle.mpd_rules.specs.{Built.{periods_refused, periods_shown}, Kept.{left_o
 use Rattle.mpd_rules.specs.Periods.{bounds_of, first_start, period_bounds, period_refusals, total_of}
 use Rattle.mpd_rules.specs.{Rules.{paths_told, refusals_behind, refused_at, silence_in, static_told}, Typed.values_with}
 use Rattle.mpd_rules.proofs.Meaning.{all_passed, bounds_count, fourth_first, mpd_is, no_period_left, periods_are, periods_told}
-use Rattle.mpd_rules.proofs.{Meaning.{silence_same, third_first}, Readable.named_readable}
+use Rattle.mpd_rules.proofs.{Ids.rows_once, Meaning.{silence_same, third_first}, Readable.named_readable}
 use Rattle.mpd_rules.proofs.Refusing.{none_first, none_told, one_first, unless_first}
 
 pub periods-requires-clause-count : goal.periods-requires-clause-count
@@ -59,8 +59,21 @@ returns-in_err-check_silence g c =
     (silence_in e.head.place (values_with g.X.FromLevels.of e).periods) _
     bounds.0 static told silence (rw (c.place.ensures, c.as_slice-2.ensures) at first)))
 
-pub of-requires : goal.of-requires
-of-requires g c = rw c.facts_of.ensures (named_readable (codes "availabilityStartTime") (element_of c.args.mpd).head)
+pub of-requires-clause-start : goal.of-requires-clause-start
+of-requires-clause-start g c = rw c.facts_of.ensures (named_readable (codes "availabilityStartTime") (element_of c.args.mpd).head)
+
+pub of-requires-clause-ids : goal.of-requires-clause-ids
+of-requires-clause-ids g c =
+    let e = element_of c.args.mpd in
+    let bounds = none_told (period_refusals e) (map bounds_of (period_bounds e)) c.in_ok-bounds.bounds (sym c.in_ok-bounds.ensures) in
+    let periods = ap (map element_of) c.deref-2.ensures.value ∙ c.in_ok-periods.ensures.kept in
+    let bases = rw c.new.ensures at c.in_ok-bases.ensures in
+    rows_once g.X.FromLevels.of g.X.FromLevels.shown c.periods.new.self.tables e c.facts_of.result c.in_ok-rows.rows c.requires.ids
+    c.facts_of.ensures
+    (periods_are g.X.FromLevels.of g.X.FromLevels.shown e
+    (periods_shown g.X.FromLevels.shown c.periods.new.self.tables c.in_ok-rows.rows) c.in_ok-bases.bases
+    (map element_of c.deref-2.result.now) c.as_slice.result.now
+    bases periods (c.as_slice.ensures ∙ bounds.1) c.in_ok-rows.ensures.rows)
 
 pub returns : goal.returns
 returns g c =

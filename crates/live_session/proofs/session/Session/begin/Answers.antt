@@ -1,4 +1,5 @@
 use Rattle.live_session.proofs.session.Session.begin.Goals as goal
+use Rattle.live_judge.proofs.FirstStates.{shown_once}
 use Rattle.live_session.proofs.{Beginning.{refused_judged, refused_presented, first_mpd}, Refusing.gives_refusal}
 
 pub returns-in_err-opened-clause-next : goal.returns-in_err-opened-clause-next
@@ -13,5 +14,6 @@ returns-in_err-check_first-clause-next g c =
 
 pub begun-requires-clause-first : goal.begun-requires-clause-first
 begun-requires-clause-first g c =
-    first_mpd c.period_ids_differ.ensures c.presentations_show_their_mpd.ensures.sections c.presentations_show_their_mpd.ensures.followed
-    c.presentations_show_their_mpd.ensures.few _ _ _ _ c.in_ok-opened.ensures c.in_ok-check_first.ensures c.requires.typed
+    first_mpd c.presentations_show_their_mpd.ensures.sections c.presentations_show_their_mpd.ensures.followed
+    c.presentations_show_their_mpd.ensures.few _ _ _ _ c.in_ok-opened.ensures c.in_ok-check_first.ensures
+    (shown_once c.args.mpd.now c.live.result c.live.ensures.live c.live.ensures.ids)
