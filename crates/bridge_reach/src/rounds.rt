@@ -110,7 +110,7 @@ impl LiveHls {
         ensures kept { spec.IsKept self.now live.new }
     {
         match round_medias(alloc, self, live.follow.formers(), &round.bodies) {
-            Ok(medias) => take(live, round.now, &medias),
+            Ok(medias) => take(live, round.now, medias),
             Err(stop) => Err(stop),
         }
     }
@@ -119,14 +119,14 @@ impl LiveHls {
 /// Applies a snapshot's playlists, and returns how many segments it appended; or why it is rejected, and then nothing is
 /// changed.
 #[tactic(auto, unfolding(crate::specs::Rounds::taken))]
-fn take(live: &mut LiveRounds, now: Instant, medias: &MediaFiles) -> Result<u64, Stop>
+fn take(live: &mut LiveRounds, now: Instant, medias: MediaFiles) -> Result<u64, Stop>
     requires now { IsReadable now }
-    requires one_each { length medias.now ≡ length live.old.follow.tracks }
-    requires bounded { All IsBounded medias.now }
+    requires one_each { length medias ≡ length live.old.follow.tracks }
+    requires bounded { All IsBounded medias }
     requires few { live.old.accepted < most_frames }
-    ensures next { Gives (λ _. live.new) refused_in result (spec.taken live.old now medias.now) }
+    ensures next { Gives (λ _. live.new) refused_in result (spec.taken live.old now medias) }
     ensures same { OnErr result (live.new ≡ live.old) }
-    ensures appended { IfOk result (λ n. n ≡ appended_by live.old.follow medias.now) }
+    ensures appended { IfOk result (λ n. n ≡ appended_by live.old.follow medias) }
 {
     match live.follow.accept(now, medias) {
         Ok(appended) => {

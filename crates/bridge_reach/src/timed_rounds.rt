@@ -72,7 +72,7 @@ impl Follow for TimedHls {
         _steps: &mut Steps<L>,
     ) -> Result<u64, FrameStop> {
         match round_medias(alloc, &self.hls, live.follow.formers(), &round.bodies) {
-            Ok(medias) => self.take(alloc, live, round.now, &medias, store),
+            Ok(medias) => self.take(alloc, live, round.now, medias, store),
             Err(stop) => Err(FrameStop::of(alloc, stop)),
         }
     }
@@ -95,17 +95,17 @@ impl TimedHls {
         alloc: Global,
         live: &mut LiveRounds,
         now: Instant,
-        medias: &MediaFiles,
+        medias: MediaFiles,
         store: &mut F,
     ) -> Result<u64, FrameStop>
         requires now { IsReadable now }
-        requires one_each { length medias.now ≡ length live.old.follow.tracks }
-        requires bounded { All IsBounded medias.now }
+        requires one_each { length medias ≡ length live.old.follow.tracks }
+        requires bounded { All IsBounded medias }
         requires few { live.old.accepted < most_frames }
         ensures next { ForSome (F.files store.old) (λ files.
-            Gives (λ _. live.new) frame_text result (spec.taken self.now files live.old now medias.now)) }
+            Gives (λ _. live.new) frame_text result (spec.taken self.now files live.old now medias)) }
         ensures same { OnErr result (live.new ≡ live.old) }
-        ensures appended { IfOk result (λ n. n ≡ appended_by live.old.follow medias.now) }
+        ensures appended { IfOk result (λ n. n ≡ appended_by live.old.follow medias) }
         ensures counts { OnOk result (live.new.accepted ≡ live.old.accepted + 1) }
         ensures kept { OnOk result ((live.new.follow.tracks ≡ live.old.follow.tracks) × IsSome live.new.follow.followed) }
         ensures cause { HasCause ReadFault (F.read_faults store.old) (F.read_faults store.new) result }

@@ -4,7 +4,7 @@ use Rattle.std.proofs.lemmas.List.Elements.{All-nil, All-cons, All-head, All-tai
 use Rattle.hls_master.specs.declared.track.MasterTrack.{MasterTrack}
 use Rattle.hls_media.specs.{Laws.IsBounded, declared.media.Media.Media}
 use Rattle.hls_presentation.specs.{Tracks.{Source, sources}, Views.source_of, declared.kept.Source.Source as Held}
-use Rattle.hls_follow.specs.Kept.{AreBounded, kept_by}
+use Rattle.hls_follow.specs.{Kept.{AreBounded, IsEarly, kept_by}, Rounds.{followed_track, tracks_with}}
 
 -- the playlist of a source is bounded
 abbrev Holds : Source → Type 0
@@ -23,6 +23,13 @@ bounded_kept (flag ∷ flags) [] are = All-nil Holds
 bounded_kept (true ∷ flags) (s ∷ all) are =
     All-cons Holds s (kept_by flags all) (All-head Holds s all are) (bounded_kept flags all (All-tail Holds s all are))
 bounded_kept (false ∷ flags) (s ∷ all) are = bounded_kept flags all (All-tail Holds s all are)
+
+pub early_with : (kept : List Source) (all : List (List ℕ)) → AreBounded kept → All IsEarly (tracks_with kept all)
+early_with [] all are = All-nil IsEarly
+early_with (s ∷ kept) [] are = All-nil IsEarly
+early_with (s ∷ kept) (times ∷ all) are =
+    All-cons IsEarly (followed_track s times) (tracks_with kept all) (All-head Holds s kept are).sequence
+    (early_with kept all (All-tail Holds s kept are))
 
 bounded_or : (kept : List Held) (i : ℕ) (d : Held) → i < length kept → AreBounded (map source_of kept)
     → IsBounded (source_of (get_or kept i d)).media

@@ -10,7 +10,7 @@ use Rattle.hls_media.specs.{declared.media.Media.Media, declared.media.MediaSegm
 use Rattle.reload_law.specs.{Laws.{IsInBoth, IsLawful, RulesAreSentences, segment_at}, Rules.{broken_if, end_of, first_broken}}
 use Rattle.reload_law.specs.Rules.{first_differing, lawful, same_part, same_range, same_section, same_segment}
 use Rattle.hls_presentation.specs.Tracks.{Source}
-use Rattle.hls_follow.specs.{declared.state.FollowedTrack.FollowedTrack, declared.state.Last.Last, declared.state.TimedSegment.TimedSegment}
+use Rattle.hls_follow.specs.{declared.state.FollowedTrack.FollowedTrack, declared.state.Last.Last, Times.TimedSegment}
 use Rattle.hls_follow.specs.{Kept.formers_of, Laws.{IsContiguous, TimesAreContiguous}, Rounds.{followed_tracks, times_in}, Rules.judged_all}
 use Rattle.hls_follow.specs.{Rules.{judged_reload, reload_told}, Times.{behind_segment, former_time, is_late, last_of, time_of, timed_all}}
 use Rattle.hls_follow.specs.Times.{timed_from, timed_of, unless_late}

@@ -1,8 +1,10 @@
 -- The segments of a section stand together.
-use Rattle.std.proofs.Common.{◌≡◌, ℕ, suc, ◌+◌, ◌<◌, ◌++◌, Bool, true, false, cond, eqb, List, [], ◌∷◌, map, take, drop, Some, slice_get}
-use Rattle.std.proofs.{Common.{refl, sym, ◌∙◌, ap, subst, append_assoc, arith}, lemmas.List.map-append, lemmas.Bool.{eq-eqb, eqb-true}}
+use Rattle.std.proofs.Common.{◌≡◌, ℕ, suc, ◌+◌, ◌-◌, ◌<◌, ◌++◌, Bool, true, false, cond, eqb, List, [], ◌∷◌, map, take, drop, get_or}
+use Rattle.std.proofs.Common.{length, Some, slice_get, refl, sym, ◌∙◌, ap, subst, append_assoc, length-drop, arith}
+use Rattle.std.proofs.{Math.Seq.take-length, lemmas.List.{drop-drop, length-take-le, map-append}}
+use Rattle.std.proofs.{lemmas.Bool.{eq-eqb, eqb-true}, lemmas.List.Sums.prefix_len-le-length, lemmas.Option.slice_get_read}
 use Rattle.std.specs.{Borrow.Bor, List.prefix_len}
-use Rattle.hls_follow.specs.{declared.state.TimedSegment.TimedSegment, Groups.{groups_of, is_of, put_before}}
+use Rattle.hls_follow.specs.{Times.TimedSegment, Groups.{groups_of, is_of, put_before}}
 
 -- how many of some segments in front are of the section of one
 abbrev pub count_like : TimedSegment → List TimedSegment → ℕ
@@ -54,15 +56,28 @@ front (x ∷ rest) s is =
       groups = cut x rest ∙ ap (λ n. take n (x ∷ rest) ∷ groups_of (drop n (x ∷ rest))) (sym count);
     })
 
+-- the first group
+pub first_cut : (n : ℕ) (xs : List TimedSegment) (s : TimedSegment) → 0 < length xs → s ≡ get_or xs 0 s → n ≡ count_like s xs
+    → groups_of xs ≡ take n xs ∷ groups_of (drop (length (take n xs)) xs)
+first_cut n xs s within at count =
+    let f = front xs s (slice_get_read xs (length xs) 0 s refl within at) in
+    let fits = prefix_len-le-length (is_of s.segment.section) xs in
+    let same : length (take n xs) ≡ n = length-take-le n xs (omega (arith, count, fits)) in
+    f.groups ∙ ap (λ n. take n xs ∷ groups_of (drop n xs)) (sym count) ∙ ap (λ m. take n xs ∷ groups_of (drop m xs)) (sym same)
+
+pub left_whole : (start : ℕ) (all : List TimedSegment) → take (length all - start) (drop start all) ≡ drop start all
+left_whole start all = ap (λ n. take n (drop start all)) (sym (length-drop start all)) ∙ take-length (drop start all)
+
 -- a group is cut off
-pub cut_off : (groups : List (Bor (List TimedSegment))) (group : Bor (List TimedSegment)) (n : ℕ) (rest later all : List TimedSegment)
-    (first : TimedSegment)
-    → slice_get rest 0 ≡ Some first → n ≡ count_like first rest → group.now ≡ take n rest → later ≡ drop n rest
-    → map (λ (g : Bor (List TimedSegment)). g.now) groups ++ groups_of rest ≡ groups_of all
-    → map (λ (g : Bor (List TimedSegment)). g.now) (groups ++ group ∷ []) ++ groups_of later ≡ groups_of all
-cut_off groups group n rest later all first is count one other so_far =
-    let f = front rest first is in
-    let pieces : group.now ∷ groups_of later ≡ groups_of rest = rw (one, other, count) (sym f.groups) in
-    ap (λ xs. xs ++ groups_of later) (map-append (λ (g : Bor (List TimedSegment)). g.now) groups (group ∷ []))
-    ∙ append_assoc (map (λ (g : Bor (List TimedSegment)). g.now) groups) (group.now ∷ []) (groups_of later)
-    ∙ ap (λ gs. map (λ (g : Bor (List TimedSegment)). g.now) groups ++ gs) pieces ∙ so_far
+pub cut_off : (groups : List (Bor (List TimedSegment))) (group : Bor (List TimedSegment)) (start : ℕ) (rest all : List TimedSegment)
+    → rest ≡ take (length all - start) (drop start all) → groups_of rest ≡ group.now ∷ groups_of (drop (length group.now) rest)
+    → map (λ (g : Bor (List TimedSegment)). g.now) groups ++ groups_of (drop start all) ≡ groups_of all
+    → map (λ (g : Bor (List TimedSegment)). g.now) (groups ++ group ∷ []) ++ groups_of (drop (start + length group.now) all) ≡ groups_of all
+cut_off groups group start rest all is pieces so_far =
+    let whole = is ∙ left_whole start all in
+    let later = ap (drop (length group.now)) whole ∙ drop-drop (length group.now) start all in
+    ap (λ xs. xs ++ groups_of (drop (start + length group.now) all))
+    (map-append (λ (g : Bor (List TimedSegment)). g.now) groups (group ∷ []))
+    ∙ append_assoc (map (λ (g : Bor (List TimedSegment)). g.now) groups) (group.now ∷ []) (groups_of (drop (start + length group.now) all))
+    ∙ ap (λ xs. map (λ (g : Bor (List TimedSegment)). g.now) groups ++ group.now ∷ groups_of xs) (sym later)
+    ∙ ap (λ gs. map (λ (g : Bor (List TimedSegment)). g.now) groups ++ gs) (sym pieces ∙ ap groups_of whole) ∙ so_far

@@ -5,7 +5,7 @@ use Rattle.std.specs.List.{list_any}
 use Rattle.bridge_io.specs.Answer.{and_then}
 use Rattle.layer_faults.specs.declared.live.LiveFault.{LiveFault}
 use Rattle.layer_faults.specs.declared.live.LiveFault.TheVariants.{Limit}
-use Rattle.hls_follow.specs.{declared.state.TimedSegment.TimedSegment, Faults.{behind, told}, Times.{is_late, unless_late}}
+use Rattle.hls_follow.specs.{Faults.{behind, told}, Times.{TimedSegment, is_late, unless_late}}
 
 -- a member more
 pub behind_more : {X : Type 0} (before : List X) (x : X) (others : Result (List X) LiveFault)

@@ -18,7 +18,7 @@ use Rattle.dash_writer.specs.declared.live.LiveSegment.{LiveSegment}
 use Rattle.hls_follow.specs.declared.periods.Extent.{Extent}
 use Rattle.hls_follow.specs.declared.state.Followed.{Followed}
 use Rattle.layer_faults.specs.declared.live.LiveFault.{LiveFault}
-use Rattle.hls_follow.specs.{declared.state.FollowedTrack.FollowedTrack, declared.state.TimedSegment.TimedSegment}
+use Rattle.hls_follow.specs.{declared.state.FollowedTrack.FollowedTrack, Times.TimedSegment}
 use Rattle.hls_follow.specs.Histories.{AreContiguousFromTheFirst, IsPlaced, IsRound, LastPlaylistsAreListed, Playlists, SegmentsStay}
 use Rattle.hls_follow.specs.{Histories.{StartsStayOverRounds, accepted_after}, Kept.{flags_of, formers_of, kept_by}, Laws.Follows}
 use Rattle.hls_follow.specs.{Laws.IsContiguous, Listed.{Listed, ListsTrack, Placed, listed_as, listed_of, placed_as, placed_in, placed_of}}

@@ -11,7 +11,7 @@ use Rattle.hls_presentation.specs.{Presenting.flattened, Tracks.{Source, map_cha
 use Rattle.dash_writer.specs.{declared.live.LiveMpd.LiveMpd, declared.live.LivePeriod.LivePeriod, declared.live.LiveRun.LiveRun}
 use Rattle.dash_writer.specs.declared.live.LiveSegment.{LiveSegment}
 use Rattle.hls_follow.specs.{declared.state.Followed.Followed, declared.state.FollowedTrack.FollowedTrack, declared.state.Last.Last}
-use Rattle.hls_follow.specs.{declared.state.TimedSegment.TimedSegment, Groups.{group_at, groups_of, row_at, row_end}, Kept.formers_of}
+use Rattle.hls_follow.specs.{Times.TimedSegment, Groups.{group_at, groups_of, row_at, row_end}, Kept.formers_of}
 use Rattle.hls_follow.specs.Listed.{Listed, ListsTrack, Placed, listed_as, listed_of, placed_as, placed_in, placed_of}
 use Rattle.hls_follow.specs.{Rounds.{followed_tracks, times_in}, Rules.{sections_behind, sections_of}, Times.{behind_segment, is_late}}
 use Rattle.hls_follow.specs.Times.{last_of, time_of, timed_all, timed_from, timed_of, unless_late}

@@ -12,7 +12,7 @@ use Rattle.hls_presentation.specs.{Presenting.flattened, Tracks.{Source, map_cha
 use Rattle.dash_writer.specs.{declared.live.LiveMpd.LiveMpd, declared.live.LivePeriod.LivePeriod, declared.timed.TickRun.TickRun}
 use Rattle.fragment_times.specs.declared.times.SegmentTimes.{SegmentTimes}
 use Rattle.hls_follow.specs.{declared.state.Followed.Followed, declared.state.FollowedTrack.FollowedTrack}
-use Rattle.hls_follow.specs.declared.state.TimedSegment.{TimedSegment}
+use Rattle.hls_follow.specs.Times.{TimedSegment}
 use Rattle.hls_follow.specs.{Groups.{groups_of, put_before}, Kept.{formers_of, periods_of}, Maps.{judged_maps, judged_maps_of_all}}
 use Rattle.hls_follow.specs.{OwnTimes.{Snapshot, map_in, map_of, period_in, section_times, times_from}}
 use Rattle.hls_follow.specs.{Periods.{end_of, extent_of, known_in, last_end}, Rounds.followed_track}

@@ -1,16 +1,15 @@
 -- The state after a snapshot whose files are read.
-use Rattle.std.proofs.Common.{◌≡◌, ℕ, suc, ◌+◌, ◌/◌, ◌^◌, ◌<◌, ◌≤◌, List, [], ◌∷◌, ◌++◌, All, map, length, take, drop, get_or, slice_get}
-use Rattle.std.proofs.Common.{Some, refl, sym, ◌∙◌, ap, append_assoc, append-nil, arith, length-drop}
+use Rattle.std.proofs.Common.{◌≡◌, ℕ, zero, suc, ◌+◌, ◌/◌, ◌^◌, ◌<◌, ◌≤◌, List, [], ◌∷◌, ◌++◌, All, map, length, take, drop, get_or}
+use Rattle.std.proofs.Common.{slice_get, Some, refl, sym, ◌∙◌, ap, append_assoc, append-nil, arith, length-drop}
 use Rattle.std.proofs.{Math.Nat.{add-div_right, div-eq_of_lt}, lemmas.List.{length-map, get_or-take}}
 use Rattle.std.proofs.{lemmas.List.Elements.{All-cons, All-head, All-nil, All-tail}, lemmas.Option.slice_get_read}
 use Rattle.hls_media.specs.{Laws.{IsBounded, IsBoundedSegment}, declared.media.MediaSegment.MediaSegment}
 use Rattle.hls_presentation.specs.{Tracks.Source, Views.source_of, declared.kept.Source.Source as Held}
 use Rattle.hls_presentation.proofs.Grouping.{IsGroup, all_groups}
 use Rattle.fragment_times.specs.declared.times.SegmentTimes.{SegmentTimes}
-use Rattle.hls_follow.specs.{declared.state.FollowedTrack.FollowedTrack, Kept.{AreBounded, IsEarly}, Rounds.{followed_track, target_of}}
+use Rattle.hls_follow.specs.{declared.state.FollowedTrack.FollowedTrack, Kept.AreBounded, Rounds.{followed_track, target_of, tracks_with}}
 use Rattle.hls_follow.specs.{Stretches.{known_times, stretches_from, stretches_of_all}, Ticks.IsBoundedStretch}
 use Rattle.hls_follow.specs.TimedRounds.{timed_tracks, times_of, times_over, tracks_from}
-use Rattle.hls_follow.proofs.Keeping.{left_at}
 
 abbrev Holds : Source → Type 0
 Holds s = IsBounded s.media
@@ -67,28 +66,34 @@ pub times_end : (count place : ℕ) (rest : List SegmentTimes) (own all : List �
 times_end count place rest own all short so_far =
     sym (append-nil own) ∙ ap (λ n. own ++ times_over n count place rest) (sym (div-eq_of_lt short)) ∙ so_far
 
--- ---- the kept tracks
+-- ---- the times of the kept tracks
 
-pub tracks_begin : (kept : List Held) (times : List SegmentTimes)
-    → tracks_from (length kept) 0 (map source_of kept) times ≡ timed_tracks (map source_of kept) times
-tracks_begin kept times = ap (λ n. tracks_from n 0 (map source_of kept) times) (sym (length-map kept source_of))
+-- those of so many tracks, from an index of `count` on
+abbrev pub times_from : (left count place : ℕ) → List SegmentTimes → List (List ℕ)
+times_from zero count place times = []
+times_from (suc left) count place times = times_of count place times ∷ times_from left count (place + 1) times
 
-pub tracks_next : (kept : List Held) (i count : ℕ) (d : Held) (tracks : List FollowedTrack) (times : List SegmentTimes) (own : List ℕ)
-    (track : FollowedTrack) (all : List FollowedTrack)
-    → i < length kept → d ≡ get_or kept i d → own ≡ times_of count i times → track ≡ followed_track (source_of d) own
-    → tracks ++ tracks_from count i (map source_of (drop i kept)) times ≡ all
-    → (tracks ++ track ∷ []) ++ tracks_from count (i + 1) (map source_of (drop (i + 1) kept)) times ≡ all
-tracks_next kept i count d tracks times own track all within at told same so_far =
-    let pieces : tracks_from count i (map source_of (drop i kept)) times
-    ≡ track ∷ tracks_from count (i + 1) (map source_of (drop (i + 1) kept)) times = rw (left_at kept i d within at, same, told) refl in
-    append_assoc tracks _ _ ∙ ap (λ others. tracks ++ others) (sym pieces) ∙ so_far
+pub times_turn : (left later count place : ℕ) (times : List SegmentTimes) (all whole : List (List ℕ)) (own : List ℕ) → left ≡ suc later
+    → own ≡ times_of count place times → all ++ times_from left count place times ≡ whole
+    → (all ++ own ∷ []) ++ times_from later count (place + 1) times ≡ whole
+times_turn left later count place times all whole own more is so_far =
+    let pieces : times_from left count place times ≡ own ∷ times_from later count (place + 1) times = rw (more, is) refl in
+    append_assoc all _ _ ∙ ap (λ others. all ++ others) (sym pieces) ∙ so_far
 
-pub early_tracks : (count place : ℕ) (kept : List Source) (times : List SegmentTimes) → AreBounded kept
-    → All IsEarly (tracks_from count place kept times)
-early_tracks count place [] times are = All-nil IsEarly
-early_tracks count place (s ∷ kept) times are =
-    All-cons IsEarly (followed_track s (times_of count place times)) (tracks_from count (place + 1) kept times)
-    (All-head Holds s kept are).sequence (early_tracks count (place + 1) kept times (All-tail Holds s kept are))
+tracks_are : (count place : ℕ) (kept : List Source) (times : List SegmentTimes)
+    → tracks_with kept (times_from (length kept) count place times) ≡ tracks_from count place kept times
+tracks_are count place [] times = refl
+tracks_are count place (s ∷ kept) times =
+    ap (λ (tracks : List FollowedTrack). followed_track s (times_of count place times) ∷ tracks) (tracks_are count (place + 1) kept times)
+
+pub times_told : (kept : List Held) (left place : ℕ) (times : List SegmentTimes) (all : List (List ℕ)) → left ≡ 0
+    → all ++ times_from left (length kept) place times ≡ times_from (length kept) (length kept) 0 times
+    → tracks_with (map source_of kept) all ≡ timed_tracks (map source_of kept) times
+times_told kept left place times all none told =
+    let sources = map source_of kept in
+    let whole = sym (append-nil all) ∙ ap (λ n. all ++ times_from n (length kept) place times) (sym none) ∙ told
+    ∙ ap (λ n. times_from n n 0 times) (sym (length-map kept source_of)) in
+    ap (tracks_with sources) whole ∙ tracks_are (length sources) 0 sources times
 
 -- ---- numbers
 

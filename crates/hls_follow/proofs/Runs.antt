@@ -10,7 +10,7 @@ use Rattle.dash_writer.specs.{Live.first_time, declared.live.LiveMpd.LiveMpd, de
 use Rattle.dash_writer.specs.{declared.live.LiveRun.LiveRun, declared.live.LiveSegment.LiveSegment}
 use Rattle.reload_law.specs.Laws.{RulesAreSentences}
 use Rattle.hls_follow.specs.{declared.state.Followed.Followed, declared.state.FollowedTrack.FollowedTrack}
-use Rattle.hls_follow.specs.{declared.state.TimedSegment.TimedSegment, Groups.{group_at, groups_of, row_at}, Histories.RunsGoOn}
+use Rattle.hls_follow.specs.{Times.TimedSegment, Groups.{group_at, groups_of, row_at}, Histories.RunsGoOn}
 use Rattle.hls_follow.specs.{Kept.formers_of, Laws.IsContiguous, Listed.{GoesOn, Listed, ListsTrack, Placed, listed_as, listed_of}}
 use Rattle.hls_follow.specs.{Listed.{placed_as, placed_in, placed_of, times_from}, Rounds.followed_tracks, Times.{timed_all, timed_of}}
 use Rattle.hls_follow.specs.Times.{unless_late}

@@ -11,7 +11,7 @@ use Rattle.hls_presentation.specs.Presenting.{flattened}
 use Rattle.layer_faults.specs.declared.hls.HlsFault.TheVariants.{MapChanged, NoMap, ZeroDuration}
 use Rattle.hls_presentation.specs.Tracks.{Source, changes_map, fault_if, has_empty, lacks_maps, map_changes, map_changes_behind, same_part}
 use Rattle.hls_presentation.specs.Tracks.{same_range}
-use Rattle.hls_follow.specs.declared.state.TimedSegment.{TimedSegment}
+use Rattle.hls_follow.specs.Times.{TimedSegment}
 use Rattle.layer_faults.specs.declared.live.LiveFault.TheVariants.{NoTracks, SectionsDiffer}
 use Rattle.hls_follow.specs.{Groups.{groups_of, put_before}, Rules.{common_sections, fault_of_track, has_sections, judged_segments}}
 use Rattle.hls_follow.specs.Rules.{judged_segments_of, sections_behind, sections_in, sections_of}

@@ -13,7 +13,7 @@ use Rattle.dash_writer.specs.{declared.live.LiveMpd.LiveMpd, declared.live.LiveP
 use Rattle.hls_follow.specs.declared.periods.Extent.{Extent}
 use Rattle.hls_follow.specs.declared.state.Followed.{Followed}
 use Rattle.layer_faults.specs.declared.live.LiveFault.TheVariants.{Limit}
-use Rattle.hls_follow.specs.{declared.state.FollowedTrack.FollowedTrack, declared.state.TimedSegment.TimedSegment, declared.state.Last.Last}
+use Rattle.hls_follow.specs.{declared.state.FollowedTrack.FollowedTrack, Times.TimedSegment, declared.state.Last.Last}
 use Rattle.hls_follow.specs.{Groups.{groups_of, row_at, row_end}, Kept.{flags_of, formers_of, periods_of}, Laws.NumbersKeepTheirTimes}
 use Rattle.hls_follow.specs.{Laws.{SectionsKeepTheirStarts, StartsStay}, Rounds.{followed_by, followed_of, followed_tracks, followed_with}}
 use Rattle.hls_follow.specs.{Rounds.{judged_tracks, kept_in, mpd_of, mpd_or_fault, placed_of, start_of, times_in}, Rules.common_sections}

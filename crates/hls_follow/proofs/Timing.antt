@@ -6,7 +6,7 @@ use Rattle.hls_media.specs.declared.media.MediaSegment.{MediaSegment}
 use Rattle.hls_presentation.specs.{Views.source_of, declared.kept.Source.Source as Held}
 use Rattle.layer_faults.specs.declared.live.LiveFault.{LiveFault}
 use Rattle.layer_faults.specs.declared.live.LiveFault.TheVariants.{Limit}
-use Rattle.hls_follow.specs.{declared.state.FollowedTrack.FollowedTrack, declared.state.TimedSegment.TimedSegment, declared.state.Last.Last}
+use Rattle.hls_follow.specs.{declared.state.FollowedTrack.FollowedTrack, Times.TimedSegment, declared.state.Last.Last}
 use Rattle.hls_follow.specs.{Faults.{behind, told}, Times.{behind_segment, is_late, time_of, timed_all, timed_from, timed_of, timed_within}}
 use Rattle.hls_follow.specs.Times.{unless_late}
 use Rattle.hls_follow.proofs.{Gathering.{stop, turn}, Keeping.left_at}

@@ -1,6 +1,6 @@
 -- The sections of a track: the segments of one discontinuity sequence number (RFC 8216 4.3.3.3).
 use Rattle.std.specs.Prelude.{ℕ, ◌==◌, max, Bool, List, [], ◌∷◌, map, slice_get, unwrap_or, if◌then◌else◌}
-use Rattle.hls_follow.specs.{declared.state.TimedSegment.TimedSegment, Times.timed_end}
+use Rattle.hls_follow.specs.Times.{TimedSegment, timed_end}
 
 -- the segment is of this section
 abbrev pub is_of : ℕ → TimedSegment → Bool

@@ -5,8 +5,7 @@ use Rattle.url_parts.specs.declared.address.Part.{Part}
 use Rattle.dash_writer.specs.{declared.live.LivePeriod.LivePeriod, declared.live.LiveRun.LiveRun, declared.live.LiveSegment.LiveSegment}
 use Rattle.layer_faults.specs.declared.live.LiveFault.{LiveFault}
 use Rattle.layer_faults.specs.declared.live.LiveFault.TheVariants.{Limit, NoMap}
-use Rattle.hls_follow.specs.{declared.periods.Extent.Extent, declared.state.TimedSegment.TimedSegment, Groups.{row_at, row_end}}
-use Rattle.hls_follow.specs.Times.{last_in}
+use Rattle.hls_follow.specs.{declared.periods.Extent.Extent, Groups.{row_at, row_end}, Times.{TimedSegment, last_in}}
 
 -- ---- the content of a track in a section
 

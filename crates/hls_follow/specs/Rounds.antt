@@ -1,6 +1,6 @@
 -- A snapshot of playlists after those that were accepted (RFC 8216, 6.2; ISO/IEC 23009-1, 5.3).
-use Rattle.std.specs.Prelude.{ℕ, max, Bool, List, [], ◌∷◌, map, if◌then◌else◌, Option, Some, None, Result, Ok, Err, ℤ, pos, neg_ℤ, ◌-ℤ◌}
-use Rattle.std.specs.{Prelude.{◌*ℤ◌, int_lt}, Int.int_div_euclid, List.list_all}
+use Rattle.std.specs.Prelude.{ℕ, max, Bool, true, false, List, [], ◌∷◌, map, if◌then◌else◌, Option, Some, None, Result, Ok, Err}
+use Rattle.std.specs.{Prelude.{ℤ, pos, neg_ℤ, ◌-ℤ◌, ◌*ℤ◌, int_lt}, Int.int_div_euclid, List.list_all}
 use Rattle.bridge_io.specs.Answer.{and_then}
 use Rattle.hls_master.specs.declared.track.MasterTrack.{MasterTrack}
 use Rattle.hls_media.specs.declared.media.Media.{Media}
@@ -9,9 +9,9 @@ use Rattle.dash_writer.specs.{declared.live.LiveMpd.LiveMpd, declared.live.LiveP
 use Rattle.layer_faults.specs.declared.live.LiveFault.{LiveFault}
 use Rattle.layer_faults.specs.declared.live.LiveFault.TheVariants.{Limit}
 use Rattle.hls_follow.specs.{declared.state.Followed.Followed, declared.state.FollowedTrack.FollowedTrack}
-use Rattle.hls_follow.specs.{declared.state.TimedSegment.TimedSegment, Groups.groups_of, Kept.{flags_of, formers_of, kept_by, periods_of}}
+use Rattle.hls_follow.specs.{declared.round.Placed.Placed, Groups.groups_of, Kept.{flags_of, formers_of, kept_by, periods_of}}
 use Rattle.hls_follow.specs.{Periods.{last_end, periods_from}, Rules.{appended_from, judged_at, judged_count}}
-use Rattle.hls_follow.specs.{Rules.{judged_segments, judged_updates}, Times.timed_all}
+use Rattle.hls_follow.specs.{Rules.{judged_segments, judged_updates}, Times.{TimedSegment, timed_all}}
 
 -- ---- the presentation by a snapshot
 
@@ -67,11 +67,31 @@ tracks_with [] all = []
 tracks_with (s ∷ kept) [] = []
 tracks_with (s ∷ kept) (times ∷ all) = followed_track s times ∷ tracks_with kept all
 
+-- the playlists that flags keep, with their times
+abbrev pub tracks_by : List Bool → List Media → (times : List (List ℕ)) → List FollowedTrack
+tracks_by flags [] all = []
+tracks_by [] (media ∷ medias) all = []
+tracks_by (false ∷ flags) (media ∷ medias) all = tracks_by flags medias all
+tracks_by (true ∷ flags) (media ∷ medias) [] = []
+tracks_by (true ∷ flags) (media ∷ medias) (times ∷ all) = record { media = media; times = times } ∷ tracks_by flags medias all
+
 abbrev pub followed_tracks : List Source → List (List TimedSegment) → List FollowedTrack
 followed_tracks kept timed = tracks_with kept (map times_in timed)
 
 abbrev pub followed_with : List Bool → List Source → List (List TimedSegment) → LiveMpd → Followed
 followed_with flags kept timed mpd = record { kept = flags; tracks = followed_tracks kept timed; mpd = mpd }
+
+-- the state after a snapshot, given its kept tracks
+abbrev pub followed_from : Placed → List Source → Followed
+followed_from p kept = record { kept = p.flags; tracks = tracks_with kept p.times; mpd = p.mpd }
+
+-- given all its tracks
+abbrev pub placed_from : Placed → List Source → Followed
+placed_from p all = followed_from p (kept_by p.flags all)
+
+-- given its playlists, one for each track
+abbrev pub moved_from : Placed → List Media → Followed
+moved_from p medias = record { kept = p.flags; tracks = tracks_by p.flags medias p.times; mpd = p.mpd }
 
 abbrev pub followed_at : Option Followed → (now : ℤ) → List Bool → List Source → List (List TimedSegment) → List LivePeriod
     → Result Followed LiveFault

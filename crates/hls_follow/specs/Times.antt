@@ -7,7 +7,12 @@ use Rattle.reload_law.specs.Rules.{end_of}
 use Rattle.hls_presentation.specs.Tracks.{Source}
 use Rattle.layer_faults.specs.declared.live.LiveFault.{LiveFault}
 use Rattle.layer_faults.specs.declared.live.LiveFault.TheVariants.{Limit}
-use Rattle.hls_follow.specs.{declared.state.FollowedTrack.FollowedTrack, declared.state.TimedSegment.TimedSegment, declared.state.Last.Last}
+use Rattle.hls_follow.specs.{declared.state.FollowedTrack.FollowedTrack, declared.state.Last.Last}
+
+-- a segment of a playlist with its time
+pub record TimedSegment : Type 0 where
+  pub segment : MediaSegment
+  pub time : ℕ
 
 -- the last member of a list
 abbrev pub last_in : {X : Type 0} → List X → Option X

@@ -72,20 +72,20 @@ impl Follow {
     /// errors come in the order of [`LiveFault`].
     ///
     /// Requires that the playlists are bounded as those that were read (`hls_media::what_is_read_is_bounded`).
-    pub fn accept(&mut self, now: Instant, medias: &MediaFiles) -> Result<Appended, LiveFault>
+    pub fn accept(&mut self, now: Instant, medias: MediaFiles) -> Result<Appended, LiveFault>
         requires now { IsReadable now }
-        requires one_each { length medias.now ≡ length self.old.tracks }
-        requires bounded { All IsBounded medias.now }
-        ensures next { Gives (λ _. self.new) told result (spec.next_of self.old now medias.now) }
+        requires one_each { length medias ≡ length self.old.tracks }
+        requires bounded { All IsBounded medias }
+        ensures next { Gives (λ _. self.new) told result (spec.next_of self.old now medias) }
         ensures same { OnErr result (self.new ≡ self.old) }
-        ensures appended { IfOk result (λ n. n.0 ≡ spec.appended_by self.old medias.now) }
+        ensures appended { IfOk result (λ n. n.0 ≡ spec.appended_by self.old medias) }
     {
         let Round { followed, appended } = follow_round(
             self.alloc,
             self.master.tracks().as_slice(),
             self.followed.as_ref(),
             now,
-            medias.as_slice(),
+            medias,
         )?;
         self.followed = Some(followed);
         Ok(Appended(appended))
@@ -109,18 +109,18 @@ impl Follow {
     pub fn accept_timed<F: Store>(
         &mut self,
         now: Instant,
-        medias: &MediaFiles,
+        medias: MediaFiles,
         folder: &Base,
         store: &mut F,
     ) -> Result<Appended, TimedFault>
         requires now { IsReadable now }
-        requires one_each { length medias.now ≡ length self.old.tracks }
-        requires bounded { All IsBounded medias.now }
+        requires one_each { length medias ≡ length self.old.tracks }
+        requires bounded { All IsBounded medias }
         ensures next { ForSome (F.files store.old) (λ files.
-            Gives (λ _. self.new) timed_told result (next_timed self.old now medias.now folder.now files)) }
+            Gives (λ _. self.new) timed_told result (next_timed self.old now medias folder.now files)) }
         ensures same { OnErr result (self.new ≡ self.old) }
         ensures kept { OnOk result ((self.new.tracks ≡ self.old.tracks) × IsSome self.new.followed) }
-        ensures appended { IfOk result (λ n. n.0 ≡ spec.appended_by self.old medias.now) }
+        ensures appended { IfOk result (λ n. n.0 ≡ spec.appended_by self.old medias) }
         ensures cause { HasCause unread (F.read_faults store.old) (F.read_faults store.new) result }
         ensures files { F.files store.new ≡ F.files store.old }
         ensures writes { F.write_faults store.new ≡ F.write_faults store.old }
@@ -130,7 +130,7 @@ impl Follow {
             self.master.tracks().as_slice(),
             self.followed.as_ref(),
             now,
-            medias.as_slice(),
+            medias,
             folder,
             store,
         )?;

@@ -1,5 +1,6 @@
 // The Periods of a snapshot.
-ghost use Rattle.std.specs.Prelude.{◌≡◌, ◌<◌, ◌^◌, All, length, IfOk};
+ghost use Rattle.std.specs.Prelude.{[], ◌≡◌, ◌<◌, ◌^◌, All, length, unwrap_or, IfOk};
+ghost use Rattle.std.specs.Option.{option_copied};
 ghost use Rattle.bridge_io.specs.Answer.{Gives};
 ghost use Rattle.hls_follow.specs.Faults.{told};
 ghost use Rattle.hls_follow.specs.Groups.{row_at};
@@ -27,7 +28,7 @@ pub(crate) struct Extent {
 pub(crate) fn periods_of(
     alloc: Global,
     known: &[LivePeriod],
-    tracks: &[Groups<'_>],
+    tracks: &[Groups<'_, '_>],
     sections: &[u64],
 ) -> Result<LivePeriodList, LiveFault>
     ensures periods { Gives (λ periods. periods) told result
@@ -53,7 +54,7 @@ fn period_of(
     known: &[LivePeriod],
     former: u128,
     number: u64,
-    tracks: &[Groups<'_>],
+    tracks: &[Groups<'_, '_>],
     place: usize,
 ) -> Result<LivePeriod, LiveFault>
     requires { former < 2 ^ 66 }
@@ -138,7 +139,7 @@ pub(crate) fn end_of(period: &LivePeriod) -> u128
 }
 
 /// The contents of the tracks in the section at an index.
-fn runs_of(alloc: Global, tracks: &[Groups<'_>], place: usize) -> Result<LiveRunList, LiveFault>
+fn runs_of(alloc: Global, tracks: &[Groups<'_, '_>], place: usize) -> Result<LiveRunList, LiveFault>
     ensures runs { Gives (λ runs. runs) told result (spec.runs_of (row_at tracks.now place)) }
     ensures filled { IfOk result (λ runs. length runs ≡ length tracks.now) }
     ensures scaled { IfOk result (All HasScale) }
@@ -150,10 +151,13 @@ fn runs_of(alloc: Global, tracks: &[Groups<'_>], place: usize) -> Result<LiveRun
     Ok(runs)
 }
 
-fn run_of(alloc: Global, group: Group<'_>) -> Result<LiveRun, LiveFault>
-    ensures run { Gives (λ run. run) told result (spec.run_of group.now) }
+fn run_of(alloc: Global, group: Option<Group<'_, '_>>) -> Result<LiveRun, LiveFault>
+    ensures run { Gives (λ run. run) told result (spec.run_of (unwrap_or (option_copied group.entry) [])) }
     ensures scaled { IfOk result HasScale }
 {
+    let Some(group) = group else {
+        return Err(LiveFault::NoMap);
+    };
     let initialization = initialization_of(alloc, group)?;
     let segments = segments_of(alloc, group)?;
     Ok(LiveRun {
@@ -165,36 +169,37 @@ fn run_of(alloc: Global, group: Group<'_>) -> Result<LiveRun, LiveFault>
 }
 
 /// The map of the first segment.
-fn initialization_of(alloc: Global, group: Group<'_>) -> Result<Part, LiveFault>
+fn initialization_of(alloc: Global, group: Group<'_, '_>) -> Result<Part, LiveFault>
     ensures { Gives (λ part. part) told result (spec.initialization_of group.now) }
 {
     let Some(first) = group.first() else {
         return Err(LiveFault::NoMap);
     };
-    match &first.segment.map {
+    match &first.segment().map {
         Some(map) => Ok(map.copy(alloc)?),
         None => Err(LiveFault::NoMap),
     }
 }
 
-fn segments_of(alloc: Global, group: Group<'_>) -> Result<LiveSegmentList, NoMemory>
+fn segments_of(alloc: Global, group: Group<'_, '_>) -> Result<LiveSegmentList, NoMemory>
     ensures { IfOk result (λ segments. segments ≡ spec.live_segments group.now) }
 {
-    let mut segments = LiveSegmentList::new(alloc);
+    let mut segments = Vec::with_capacity(alloc, group.len())?;
     for timed in group {
         segments.push(segment_of(alloc, timed)?)?;
     }
-    Ok(segments)
+    Ok(LiveSegmentList::from(segments))
 }
 
-fn segment_of(alloc: Global, timed: &TimedSegment) -> Result<LiveSegment, NoMemory>
+fn segment_of(alloc: Global, timed: &TimedSegment<'_>) -> Result<LiveSegment, NoMemory>
     ensures { IfOk result (λ segment. segment ≡ spec.live_segment timed.now) }
 {
-    let address = timed.segment.address.copy(alloc)?;
+    let segment = timed.segment();
+    let address = segment.address.copy(alloc)?;
     Ok(LiveSegment {
         address,
-        range: timed.segment.range,
-        time: timed.time,
-        duration: timed.segment.duration.0,
+        range: segment.range,
+        time: timed.time(),
+        duration: segment.duration.0,
     })
 }

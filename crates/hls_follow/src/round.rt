@@ -20,17 +20,30 @@ use crate::kept::{flags_of, formers_of, kept_by, periods_of as former_periods};
 use crate::periods::{last_end, periods_of};
 use crate::rules::{SectionList, appended_by, check_count, check_now, check_tracks, check_updates};
 use crate::state::{Followed, FollowedList, FollowedTrack, KeptList, TimeList, TimedList};
-use crate::times::{TimedTracks, time_all};
+use crate::times::time_all;
 use bridge_io::{NoMemory, Sequence};
 use dash_writer::{LiveMpd, LivePeriodList};
 use hls_master::MasterTrack;
 use hls_media::Media;
-use hls_presentation::{Source, sources_of, tracks_of};
+use hls_presentation::{MediaFiles, Source, sources_of, tracks_of};
 use iso_time::Instant;
 use std::alloc::Global;
 
 /// The times of the segments of tracks.
-type TimeLists = Sequence<TimeList>;
+pub(crate) type TimeLists = Sequence<TimeList>;
+
+/// What a snapshot's playlists become, before they are kept.
+#[derive(Drop)]
+pub(crate) struct Placed {
+    /// Which tracks are kept.
+    pub(crate) flags: KeptList,
+    /// When the segments of the kept tracks begin.
+    pub(crate) times: TimeLists,
+    /// The MPD.
+    pub(crate) mpd: LiveMpd,
+    /// How many segments are appended.
+    pub(crate) appended: u64,
+}
 
 /// The result of an accepted snapshot.
 #[derive(Drop)]
@@ -42,50 +55,70 @@ pub(crate) struct Round {
 }
 
 /// The result of a snapshot after those that were accepted, or why it is rejected.
-#[tactic(auto, unfolding(crate::specs::Rounds::followed_of))]
 pub(crate) fn follow_round(
     alloc: Global,
     tracks: &[MasterTrack],
     former: Option<&Followed>,
     now: Instant,
-    medias: &[Media],
+    medias: MediaFiles,
 ) -> Result<Round, LiveFault>
+    requires now { IsReadable now }
+    requires one_each { length medias ≡ length tracks.now }
+    requires bounded { All IsBounded medias }
+    requires sound { IfSome (option_copied former) IsSound }
+    ensures sound { IfOk result (λ round. IsSound round.followed) }
+    ensures next { Gives (λ round. round.followed) told result (spec.followed_of tracks.now (option_copied former.entry) now medias) }
+    ensures appended { IfOk result (λ round. round.appended
+        ≡ appended_from (formers_of (option_copied former.entry)) 0
+        (spec.kept_in (option_copied former.entry) (sources tracks.now medias))) }
+{
+    let placed = place_round(alloc, tracks, former, now, medias.as_slice())?;
+    Ok(keep(alloc, placed, medias)?)
+}
+
+#[tactic(auto, unfolding(crate::specs::Rounds::followed_of))]
+fn place_round(
+    alloc: Global,
+    tracks: &[MasterTrack],
+    former: Option<&Followed>,
+    now: Instant,
+    medias: &[Media],
+) -> Result<Placed, LiveFault>
     requires now { IsReadable now }
     requires bounded { All IsBounded medias.now }
     requires sound { IfSome (option_copied former) IsSound }
-    ensures sound { IfOk result (λ round. IsSound round.followed) }
-    ensures next { Gives (λ round. round.followed) told result (spec.followed_of tracks.now (option_copied former.entry) now medias.now) }
-    ensures appended { IfOk result (λ round. round.appended
+    ensures sound { IfOk result (λ placed. IsSound (spec.placed_from placed (sources tracks.now medias.now))) }
+    ensures next { Gives (λ placed. spec.placed_from placed (sources tracks.now medias.now)) told result
+        (spec.followed_of tracks.now (option_copied former.entry) now medias.now) }
+    ensures appended { IfOk result (λ placed. placed.appended
         ≡ appended_from (formers_of (option_copied former.entry)) 0
         (spec.kept_in (option_copied former.entry) (sources tracks.now medias.now))) }
 {
     check_now(former, now)?;
     let sources = sources_of(alloc, tracks, medias)?;
-    follow_sources(alloc, former, now, &sources)
+    place_sources(alloc, former, now, &sources)
 }
 
-fn follow_sources(
+fn place_sources(
     alloc: Global,
     former: Option<&Followed>,
     now: Instant,
     sources: &[Source<'_>],
-) -> Result<Round, LiveFault>
+) -> Result<Placed, LiveFault>
     requires now { IsReadable now }
     requires bounded { AreBounded (map source_of sources.now) }
     requires sound { IfSome (option_copied former) IsSound }
-    ensures sound { IfOk result (λ round. IsSound round.followed) }
-    ensures next { Gives (λ round. round.followed) told result
+    ensures sound { IfOk result (λ placed. IsSound (spec.placed_from placed (map source_of sources.now))) }
+    ensures next { Gives (λ placed. spec.placed_from placed (map source_of sources.now)) told result
         (spec.followed_by (option_copied former.entry) now (map source_of sources.now)) }
-    ensures appended { IfOk result (λ round. round.appended
+    ensures appended { IfOk result (λ placed. placed.appended
         ≡ appended_from (formers_of (option_copied former.entry)) 0
         (spec.kept_in (option_copied former.entry) (map source_of sources.now))) }
 {
     let flags = flags_of(alloc, former, sources)?;
     let kept = kept_by(alloc, flags.as_slice(), sources)?;
     let sections = judge_tracks(alloc, formers_of(former), &kept)?;
-    let followed = place(alloc, former, now, flags, &kept, sections.as_slice())?;
-    let appended = appended_by(formers_of(former), &kept);
-    Ok(Round { followed, appended })
+    place(alloc, former, now, flags, &kept, sections.as_slice())
 }
 
 /// The sections of the kept tracks, or their first error.
@@ -115,41 +148,46 @@ fn place(
     flags: KeptList,
     kept: &[Source<'_>],
     sections: &[u64],
-) -> Result<Followed, LiveFault>
+) -> Result<Placed, LiveFault>
     requires now { IsReadable now }
     requires bounded { AreBounded (map source_of kept.now) }
+    requires few { count_of (map source_of kept.now) ≤ 500_000 }
     requires sound { IfSome (option_copied former) IsSound }
-    ensures sound { IfOk result (λ followed. IsSound followed) }
-    ensures followed { Gives (λ followed. followed) told result
+    ensures sound { IfOk result (λ placed. IsSound (spec.followed_from placed (map source_of kept.now))) }
+    ensures placed { Gives (λ placed. spec.followed_from placed (map source_of kept.now)) told result
         (spec.placed_of (option_copied former.entry) now flags (map source_of kept.now) sections.now) }
+    ensures flags { IfOk result (λ placed. placed.flags ≡ flags) }
+    ensures appended { IfOk result (λ placed. placed.appended
+        ≡ appended_from (formers_of (option_copied former.entry)) 0 (map source_of kept.now)) }
 {
     let timed = time_all(alloc, formers_of(former), kept)?;
-    let times = times_of_all(alloc, timed.as_slice())?;
-    let periods = periods_with(alloc, former, timed, sections)?;
+    let periods = periods_with(alloc, former, timed.as_slice(), sections)?;
     let end = last_end(periods.as_slice());
     let mpd = mpd_of(alloc, former, now, end, kept, periods)?;
-    let tracks = followed_tracks(alloc, kept, times)?;
-    Ok(Followed {
-        kept: flags,
-        tracks,
+    let times = times_of_all(alloc, timed.as_slice())?;
+    let appended = appended_by(formers_of(former), kept);
+    Ok(Placed {
+        flags,
+        times,
         mpd,
+        appended,
     })
 }
 
-/// The Periods of the tracks' segments, which aren't needed any more.
+/// The Periods of the tracks' segments.
 fn periods_with(
     alloc: Global,
     former: Option<&Followed>,
-    timed: TimedTracks,
+    timed: &[TimedList<'_>],
     sections: &[u64],
 ) -> Result<LivePeriodList, LiveFault>
     ensures periods { Gives (λ periods. periods) told result
-        (periods.periods_from (former_periods (option_copied former.entry)) (map groups_of timed)
+        (periods.periods_from (former_periods (option_copied former.entry)) (map groups_of timed.now)
         (periods.last_end (former_periods (option_copied former.entry))) 0 sections.now) }
-    ensures filled { IfOk result (All (λ p. length p.runs ≡ length timed)) }
+    ensures filled { IfOk result (All (λ p. length p.runs ≡ length timed.now)) }
     ensures scaled { IfOk result (All HasScales) }
 {
-    let groups = groups_of_all(alloc, timed.as_slice())?;
+    let groups = groups_of_all(alloc, timed)?;
     periods_of(alloc, former_periods(former), &groups, sections)
 }
 
@@ -233,41 +271,55 @@ fn are_ended(kept: &[Source<'_>]) -> bool
     true
 }
 
-/// The kept tracks' playlists with their times.
+/// The new state, which has the playlists that are kept.
+pub(crate) fn keep(alloc: Global, placed: Placed, medias: MediaFiles) -> Result<Round, NoMemory>
+    ensures followed { IfOk result (λ round. round.followed ≡ spec.moved_from placed medias) }
+    ensures appended { IfOk result (λ round. round.appended ≡ placed.appended) }
+{
+    let Placed {
+        flags,
+        times,
+        mpd,
+        appended,
+    } = placed;
+    let tracks = followed_tracks(alloc, flags.as_slice(), medias, times)?;
+    let followed = Followed {
+        kept: flags,
+        tracks,
+        mpd,
+    };
+    Ok(Round { followed, appended })
+}
+
+/// The playlists that are kept, with their times.
 fn followed_tracks(
     alloc: Global,
-    kept: &[Source<'_>],
+    mut flags: &[bool],
+    medias: MediaFiles,
     times: TimeLists,
 ) -> Result<FollowedList, NoMemory>
-    requires { AreBounded (map source_of kept.now) }
-    ensures early { IfOk result (λ tracks. All IsEarly tracks) }
-    ensures tracks { IfOk result (λ tracks. tracks ≡ spec.tracks_with (map source_of kept.now) times) }
+    ensures { IfOk result (λ tracks. tracks ≡ spec.tracks_by flags.entry.now medias times) }
 {
     let mut tracks = FollowedList::new(alloc);
+    let mut left = medias.into_vec().into_iter();
     let mut rest = times.into_vec().into_iter();
-    for source in kept {
-        let Some(own) = rest.next() else {
+    while let Some(media) = left.next() {
+        let Some((flag, later)) = flags.split_first() else {
             return Ok(tracks);
         };
-        tracks.push(followed_track(alloc, source, own)?)?;
+        flags = later;
+        if *flag {
+            let Some(times) = rest.next() else {
+                return Ok(tracks);
+            };
+            tracks.push(FollowedTrack { media, times })?;
+        }
     }
     Ok(tracks)
 }
 
-/// A kept track's playlist with its times.
-pub(crate) fn followed_track(
-    alloc: Global,
-    source: &Source<'_>,
-    times: TimeList,
-) -> Result<FollowedTrack, NoMemory>
-    ensures { IfOk result (λ track. track ≡ spec.followed_track (source_of source.now) times) }
-{
-    let media = source.media.copy(alloc)?;
-    Ok(FollowedTrack { media, times })
-}
-
 /// The times of the segments of each track.
-fn times_of_all(alloc: Global, tracks: &[TimedList]) -> Result<TimeLists, NoMemory>
+fn times_of_all(alloc: Global, tracks: &[TimedList<'_>]) -> Result<TimeLists, NoMemory>
     ensures { IfOk result (λ times. times ≡ map spec.times_in tracks.now) }
 {
     let mut all = TimeLists::new(alloc);
@@ -277,12 +329,12 @@ fn times_of_all(alloc: Global, tracks: &[TimedList]) -> Result<TimeLists, NoMemo
     Ok(all)
 }
 
-fn times_of(alloc: Global, timed: &TimedList) -> Result<TimeList, NoMemory>
+fn times_of(alloc: Global, timed: &TimedList<'_>) -> Result<TimeList, NoMemory>
     ensures { IfOk result (λ times. times ≡ spec.times_in timed.now) }
 {
-    let mut times = TimeList::new(alloc);
+    let mut times = Vec::with_capacity(alloc, timed.len())?;
     for segment in timed.as_slice() {
-        times.push(segment.time)?;
+        times.push(segment.time())?;
     }
-    Ok(times)
+    Ok(TimeList::from(times))
 }

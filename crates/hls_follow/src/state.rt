@@ -1,8 +1,11 @@
 // The state after the accepted snapshots.
+ghost use Rattle.std.specs.Prelude.{◌≡◌};
+
 use bridge_io::Sequence;
 use dash_writer::LiveMpd;
 use exact_time::Nanos;
 use hls_media::{Media, MediaSegment};
+use std::marker::Model;
 
 /// A kept track's last playlist.
 #[derive(Drop)]
@@ -35,15 +38,43 @@ pub(crate) type FollowedList = Sequence<FollowedTrack>;
 
 /// A segment of a playlist with its time.
 #[derive(Drop)]
-pub(crate) struct TimedSegment {
+pub(crate) struct TimedSegment<'a> {
+    segment: &'a MediaSegment,
+    time: u64,
+}
+
+impl<'a> Model for TimedSegment<'a> {
+    ghost use Rattle.hls_follow.specs.Times.{TimedSegment};
+
+    ghost Value = { TimedSegment };
+
+    ghost view = { λ t. record { segment = t.segment.now; time = t.time } };
+}
+
+impl<'a> TimedSegment<'a> {
+    pub(crate) fn new(segment: &'a MediaSegment, time: u64) -> TimedSegment<'a>
+        ensures { result ≡ record { segment = segment.now; time = time } }
+    {
+        TimedSegment { segment, time }
+    }
+
     /// The segment.
-    pub(crate) segment: MediaSegment,
+    pub(crate) fn segment(&self) -> &'a MediaSegment
+        ensures { result.now ≡ self.now.segment }
+    {
+        self.segment
+    }
+
     /// When it begins, in nanoseconds relative to its section's start.
-    pub(crate) time: u64,
+    pub(crate) fn time(&self) -> u64
+        ensures { result ≡ self.now.time }
+    {
+        self.time
+    }
 }
 
 /// The segments of a playlist in order.
-pub(crate) type TimedList = Sequence<TimedSegment>;
+pub(crate) type TimedList<'a> = Sequence<TimedSegment<'a>>;
 
 /// The last segment before new ones.
 #[derive(Clone, Copy)]

@@ -10,17 +10,17 @@ ghost use Rattle.hls_presentation.specs.Tracks.{sources};
 ghost use Rattle.hls_follow.specs.Faults.{told};
 ghost use Rattle.hls_follow.specs.Kept.{AreBounded, IsSound, formers_of};
 ghost use Rattle.hls_follow.specs.OwnTimes.{timed_told, unread};
-ghost use Rattle.hls_follow.specs.Rounds.{kept_in};
+ghost use Rattle.hls_follow.specs.Rounds.{followed_from, kept_in, placed_from, tracks_with};
 ghost use Rattle.hls_follow.specs.Rules.{appended_from, count_of};
 ghost use Rattle.hls_follow.specs.TimedRounds as spec;
 
 use crate::kept::{flags_of, formers_of, kept_by, periods_of};
 use crate::maps::check_maps_of_all;
 use crate::periods::last_end;
-use crate::round::{Round, followed_track, mpd_of, target_of};
+use crate::round::{Placed, Round, TimeLists, keep, mpd_of, target_of};
 use crate::rules::{SectionList, appended_by, check_count, check_now, check_updates};
 use crate::snapshot::Snapshot;
-use crate::state::{Followed, FollowedList, KeptList, TimeList};
+use crate::state::{Followed, KeptList, TimeList};
 use crate::stretches::stretches_of_all;
 use crate::{LiveFault, TimedFault};
 use bridge_io::{NoMemory, Store};
@@ -28,14 +28,40 @@ use dash_writer::LivePeriod;
 use fragment_times::SegmentTimes;
 use hls_master::MasterTrack;
 use hls_media::Media;
-use hls_presentation::{Source, sources_of};
+use hls_presentation::{MediaFiles, Source, sources_of};
 use iso_time::Instant;
 use std::alloc::Global;
 use url_parts::Base;
 
 /// The result of a snapshot after those that were accepted, with the times of its media files, or why it is rejected.
-#[tactic(auto, unfolding(crate::specs::TimedRounds::timed_of))]
 pub(crate) fn time_round<F: Store>(
+    alloc: Global,
+    tracks: &[MasterTrack],
+    former: Option<&Followed>,
+    now: Instant,
+    medias: MediaFiles,
+    folder: &Base,
+    store: &mut F,
+) -> Result<Round, TimedFault>
+    requires now { IsReadable now }
+    requires one_each { length medias ≡ length tracks.now }
+    requires bounded { All IsBounded medias }
+    requires sound { IfSome (option_copied former) IsSound }
+    ensures sound { IfOk result (λ round. IsSound round.followed) }
+    ensures next { ForSome (F.files store.old) (λ files. Gives (λ round. round.followed) timed_told result
+        (spec.timed_of tracks.now (option_copied former.entry) now medias folder.now files)) }
+    ensures appended { IfOk result (λ round. round.appended ≡ appended_from (formers_of (option_copied former.entry)) 0
+        (kept_in (option_copied former.entry) (sources tracks.now medias))) }
+    ensures cause { HasCause unread (F.read_faults store.old) (F.read_faults store.new) result }
+    ensures files { F.files store.new ≡ F.files store.old }
+    ensures writes { F.write_faults store.new ≡ F.write_faults store.old }
+{
+    let placed = time_medias(alloc, tracks, former, now, medias.as_slice(), folder, store)?;
+    Ok(keep(alloc, placed, medias)?)
+}
+
+#[tactic(auto, unfolding(crate::specs::TimedRounds::timed_of))]
+fn time_medias<F: Store>(
     alloc: Global,
     tracks: &[MasterTrack],
     former: Option<&Followed>,
@@ -43,14 +69,14 @@ pub(crate) fn time_round<F: Store>(
     medias: &[Media],
     folder: &Base,
     store: &mut F,
-) -> Result<Round, TimedFault>
+) -> Result<Placed, TimedFault>
     requires now { IsReadable now }
     requires bounded { All IsBounded medias.now }
     requires sound { IfSome (option_copied former) IsSound }
-    ensures sound { IfOk result (λ round. IsSound round.followed) }
-    ensures next { ForSome (F.files store.old) (λ files. Gives (λ round. round.followed) timed_told result
-        (spec.timed_of tracks.now (option_copied former.entry) now medias.now folder.now files)) }
-    ensures appended { IfOk result (λ round. round.appended ≡ appended_from (formers_of (option_copied former.entry)) 0
+    ensures sound { IfOk result (λ placed. IsSound (placed_from placed (sources tracks.now medias.now))) }
+    ensures next { ForSome (F.files store.old) (λ files. Gives (λ placed. placed_from placed (sources tracks.now medias.now)) timed_told
+        result (spec.timed_of tracks.now (option_copied former.entry) now medias.now folder.now files)) }
+    ensures appended { IfOk result (λ placed. placed.appended ≡ appended_from (formers_of (option_copied former.entry)) 0
         (kept_in (option_copied former.entry) (sources tracks.now medias.now))) }
     ensures cause { HasCause unread (F.read_faults store.old) (F.read_faults store.new) result }
     ensures files { F.files store.new ≡ F.files store.old }
@@ -68,14 +94,14 @@ fn time_sources<F: Store>(
     sources: &[Source<'_>],
     folder: &Base,
     store: &mut F,
-) -> Result<Round, TimedFault>
+) -> Result<Placed, TimedFault>
     requires now { IsReadable now }
     requires bounded { AreBounded (map source_of sources.now) }
     requires sound { IfSome (option_copied former) IsSound }
-    ensures sound { IfOk result (λ round. IsSound round.followed) }
-    ensures next { ForSome (F.files store.old) (λ files. Gives (λ round. round.followed) timed_told result
+    ensures sound { IfOk result (λ placed. IsSound (placed_from placed (map source_of sources.now))) }
+    ensures next { ForSome (F.files store.old) (λ files. Gives (λ placed. placed_from placed (map source_of sources.now)) timed_told result
         (spec.timed_by (option_copied former.entry) now (map source_of sources.now) folder.now files)) }
-    ensures appended { IfOk result (λ round. round.appended ≡ appended_from (formers_of (option_copied former.entry)) 0
+    ensures appended { IfOk result (λ placed. placed.appended ≡ appended_from (formers_of (option_copied former.entry)) 0
         (kept_in (option_copied former.entry) (map source_of sources.now))) }
     ensures cause { HasCause unread (F.read_faults store.old) (F.read_faults store.new) result }
     ensures files { F.files store.new ≡ F.files store.old }
@@ -84,7 +110,7 @@ fn time_sources<F: Store>(
     let flags = flags_of(alloc, former, sources)?;
     let kept = kept_by(alloc, flags.as_slice(), sources)?;
     let sections = judge_tracks(alloc, former, &kept)?;
-    let followed = place_timed(
+    place_timed(
         alloc,
         former,
         now,
@@ -93,9 +119,7 @@ fn time_sources<F: Store>(
         sections.as_slice(),
         folder,
         store,
-    )?;
-    let appended = appended_by(formers_of(former), &kept);
-    Ok(Round { followed, appended })
+    )
 }
 
 /// The sections of the kept tracks, or their first error. No section has another map than before. That they are few is known before any
@@ -126,12 +150,16 @@ fn place_timed<'a, F: Store>(
     sections: &'a [u64],
     folder: &'a Base,
     store: &mut F,
-) -> Result<Followed, TimedFault>
+) -> Result<Placed, TimedFault>
     requires now { IsReadable now }
     requires bounded { AreBounded (map source_of kept.now) }
+    requires few { count_of (map source_of kept.now) ≤ 500_000 }
     requires sound { IfSome (option_copied former) IsSound }
-    ensures sound { IfOk result (λ followed. IsSound followed) }
-    ensures followed { ForSome (F.files store.old) (λ files. Gives (λ followed. followed) timed_told result
+    ensures sound { IfOk result (λ placed. IsSound (followed_from placed (map source_of kept.now))) }
+    ensures flags { IfOk result (λ placed. placed.flags ≡ flags) }
+    ensures appended { IfOk result (λ placed. placed.appended
+        ≡ appended_from (formers_of (option_copied former.entry)) 0 (map source_of kept.now)) }
+    ensures placed { ForSome (F.files store.old) (λ files. Gives (λ placed. followed_from placed (map source_of kept.now)) timed_told result
         (spec.placed_of (option_copied former.entry) now flags (map source_of kept.now) sections.now folder.now files)) }
     ensures cause { HasCause unread (F.read_faults store.old) (F.read_faults store.new) result }
     ensures files { F.files store.new ≡ F.files store.old }
@@ -150,11 +178,13 @@ fn place_timed<'a, F: Store>(
     let periods = snapshot.periods_of(alloc, runs.as_slice())?;
     let end = listed_by(periods.as_slice(), kept);
     let mpd = mpd_of(alloc, former, now, end, kept, periods)?;
-    let tracks = timed_tracks(alloc, kept, times.as_slice())?;
-    Ok(Followed {
-        kept: flags,
-        tracks,
+    let times = times_by_track(alloc, kept, times.as_slice())?;
+    let appended = appended_by(formers_of(former), kept);
+    Ok(Placed {
+        flags,
+        times,
         mpd,
+        appended,
     })
 }
 
@@ -168,20 +198,19 @@ fn listed_by(periods: &[LivePeriod], kept: &[Source<'_>]) -> u128
     last_end(periods) + 2 * u128::from(target_of(kept)) * 1_000_000_000
 }
 
-/// The kept tracks' playlists with their times, which are by section, then by track.
-fn timed_tracks(
+/// The times of the kept tracks, given by section, then by track.
+fn times_by_track(
     alloc: Global,
     kept: &[Source<'_>],
     times: &[SegmentTimes],
-) -> Result<FollowedList, NoMemory>
-    ensures { IfOk result (λ tracks. tracks ≡ spec.timed_tracks (map source_of kept.now) times.now) }
+) -> Result<TimeLists, NoMemory>
+    ensures { IfOk result (λ all. tracks_with (map source_of kept.now) all ≡ spec.timed_tracks (map source_of kept.now) times.now) }
 {
-    let mut tracks = FollowedList::new(alloc);
+    let mut all = TimeLists::new(alloc);
     for place in 0..kept.len() {
-        let own = times_of(alloc, kept.len(), place, times)?;
-        tracks.push(followed_track(alloc, &kept[place], own)?)?;
+        all.push(times_of(alloc, kept.len(), place, times)?)?;
     }
-    Ok(tracks)
+    Ok(all)
 }
 
 /// The times of the track at an index of so many.

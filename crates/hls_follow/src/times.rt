@@ -16,14 +16,14 @@ use hls_presentation::Source;
 use std::alloc::Global;
 
 /// The segments of all kept tracks.
-pub(crate) type TimedTracks = Sequence<TimedList>;
+pub(crate) type TimedTracks<'a> = Sequence<TimedList<'a>>;
 
 /// The segments of the kept tracks with their times.
-pub(crate) fn time_all(
+pub(crate) fn time_all<'a>(
     alloc: Global,
     formers: &[FollowedTrack],
-    kept: &[Source<'_>],
-) -> Result<TimedTracks, LiveFault>
+    kept: &[Source<'a>],
+) -> Result<TimedTracks<'a>, LiveFault>
     requires { AreBounded (map source_of kept.now) }
     ensures timed { Gives (λ timed. timed) told result (spec.timed_all formers.now 0 (map source_of kept.now)) }
     ensures all { IfOk result (λ timed. length timed ≡ length kept.now) }
@@ -40,11 +40,11 @@ pub(crate) fn time_all(
 
 /// The segments of a playlist with their times.
 #[tactic(auto, unfolding(crate::specs::Times::timed_of))]
-fn time_segments(
+fn time_segments<'a>(
     alloc: Global,
     former: Option<&FollowedTrack>,
-    media: &Media,
-) -> Result<TimedList, LiveFault>
+    media: &'a Media,
+) -> Result<TimedList<'a>, LiveFault>
     requires { IsBounded media.now }
     ensures { Gives (λ timed. timed) told result (spec.unless_late (spec.timed_of (option_copied former.entry) media.now)) }
 {
@@ -53,7 +53,7 @@ fn time_segments(
     let mut number = media.sequence;
     for segment in media.segments.as_slice() {
         let time = time_of(former, media.target, number, segment.section, last);
-        let next = timed_segment(alloc, segment, time)?;
+        let next = timed_segment(segment, time)?;
         last = Some(behind(number, &next));
         timed.push(next)?;
         number += 1;
@@ -62,32 +62,24 @@ fn time_segments(
 }
 
 /// A segment with its time, where it doesn't end too late.
-fn timed_segment(
-    alloc: Global,
-    segment: &MediaSegment,
-    time: u128,
-) -> Result<TimedSegment, LiveFault>
+fn timed_segment<'a>(segment: &'a MediaSegment, time: u128) -> Result<TimedSegment<'a>, LiveFault>
     requires { time < 2 ^ 127 }
     ensures { Gives (λ timed. timed) told result (spec.timed_within segment.now time) }
 {
     if 1 << 63 <= time + u128::from(segment.duration.0) {
         return Err(LiveFault::Limit);
     }
-    let segment = segment.copy(alloc)?;
-    Ok(TimedSegment {
-        segment,
-        time: time as u64,
-    })
+    Ok(TimedSegment::new(segment, time as u64))
 }
 
-fn behind(number: u64, timed: &TimedSegment) -> Last
+fn behind(number: u64, timed: &TimedSegment<'_>) -> Last
     ensures { result ≡ spec.behind_segment number timed.now.time timed.now.segment }
 {
     Last {
         next: u128::from(number) + 1,
-        section: timed.segment.section,
-        time: timed.time,
-        duration: timed.segment.duration,
+        section: timed.segment().section,
+        time: timed.time(),
+        duration: timed.segment().duration,
     }
 }
 

@@ -1,9 +1,15 @@
-use Rattle.std.proofs.Common.{map, ap, ◌∙◌}
-use Rattle.hls_presentation.specs.Views.{source_of}
-use Rattle.hls_follow.proofs.Bounded.{bounded_sources}
 use Rattle.hls_follow.proofs.round.follow_round.Goals as goal
+use Rattle.std.proofs.Common.{Ok, sym, ◌∙◌, ap}
+use Rattle.hls_follow.proofs.Keeping.{moved_is}
 
-pub follow_sources-requires-clause-bounded : goal.follow_sources-requires-clause-bounded
-follow_sources-requires-clause-bounded c =
-    rw (ap (map source_of) c.deref.ensures.value ∙ c.in_ok-sources.ensures)
-    (bounded_sources c.args.tracks.now c.args.medias.now c.requires.bounded)
+pub returns-clause-sound : goal.returns-clause-sound
+returns-clause-sound c =
+    let placed = c.in_ok-placed in
+    let same = c.in_ok-keep.ensures.followed ∙ moved_is placed.placed c.args.tracks.now c.args.medias c.requires.one_each in
+    rw same (rw c.as_slice.ensures at placed.ensures.sound)
+
+pub returns-clause-next : goal.returns-clause-next
+returns-clause-next c =
+    let placed = c.in_ok-placed in
+    let same = c.in_ok-keep.ensures.followed ∙ moved_is placed.placed c.args.tracks.now c.args.medias c.requires.one_each in
+    (rw c.as_slice.ensures at placed.ensures.next) ∙ ap Ok (sym same)

@@ -1,12 +1,11 @@
 use Rattle.hls_follow.proofs.round.followed_tracks.Given as goal
-use Rattle.std.proofs.Common.{◌≡◌, ◌++◌, All, drop, map}
-use Rattle.std.specs.Vec.Iter.{into_iter_items}
-use Rattle.hls_presentation.specs.Views.{source_of}
-use Rattle.hls_follow.specs.{Kept.IsEarly, Rounds.tracks_with}
+use Rattle.std.proofs.Common.{◌≡◌, ◌++◌}
+use Rattle.std.specs.Vec.Iter.{into_iter_items, into_iter_len}
+use Rattle.hls_follow.specs.Rounds.{tracks_by}
 
-abbrev pub invariant-loop-source : goal.invariant-loop-source
-invariant-loop-source l = record {
-  told : l.tracks ++ tracks_with (map source_of (drop l.source-index l.kept)) (into_iter_items l.rest)
-      ≡ tracks_with (map source_of l.kept) l.fn.times;
-  early : All IsEarly l.tracks;
-}
+abbrev pub invariant-loop-media : goal.invariant-loop-media
+invariant-loop-media l = l.tracks ++ tracks_by l.flags (into_iter_items l.left) (into_iter_items l.rest)
+    ≡ tracks_by l.fn.flags l.fn.medias l.fn.times
+
+abbrev pub decreases-loop-media : goal.decreases-loop-media
+decreases-loop-media l = into_iter_len l.left

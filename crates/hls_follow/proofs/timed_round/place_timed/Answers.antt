@@ -2,7 +2,7 @@ use Rattle.hls_follow.proofs.timed_round.place_timed.Goals as goal
 use Rattle.std.proofs.{Common.{◌≡◌, ℕ, All, length, map, ap, ◌∙◌, subst}, lemmas.List.length-map}
 use Rattle.hls_presentation.specs.Views.{source_of}
 use Rattle.dash_writer.specs.declared.live.LivePeriod.{LivePeriod}
-use Rattle.hls_follow.proofs.Placing.{bounded_stretches, early_tracks, many_stretches}
+use Rattle.hls_follow.proofs.{Bounded.early_with, Placing.{bounded_stretches, many_stretches}}
 
 pub runs-requires-clause-bounded : goal.runs-requires-clause-bounded
 runs-requires-clause-bounded g c =
@@ -19,7 +19,7 @@ mpd_of-requires-clause-filled g c =
 
 pub returns-clause-sound : goal.returns-clause-sound
 returns-clause-sound g c = record {
-  early = rw c.in_ok-tracks-2.ensures (early_tracks _ 0 (map source_of c.args.kept.now) c.as_slice-4.result.now c.requires.bounded);
+  early = early_with (map source_of c.args.kept.now) _ c.requires.bounded;
   live = c.in_ok-mpd.ensures.live;
   scaled = rw c.in_ok-mpd.ensures.listed c.in_ok-periods.ensures.scaled;
 }

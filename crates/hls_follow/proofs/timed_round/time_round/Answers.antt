@@ -1,9 +1,15 @@
-use Rattle.std.proofs.Common.{map, ap, ◌∙◌}
-use Rattle.hls_presentation.specs.Views.{source_of}
-use Rattle.hls_follow.proofs.Bounded.{bounded_sources}
 use Rattle.hls_follow.proofs.timed_round.time_round.Goals as goal
+use Rattle.std.proofs.Common.{Ok, sym, ◌∙◌, ap}
+use Rattle.hls_follow.proofs.Keeping.{moved_is}
 
-pub time_sources-requires-clause-bounded : goal.time_sources-requires-clause-bounded
-time_sources-requires-clause-bounded g c =
-    rw (ap (map source_of) c.deref.ensures.value ∙ c.in_ok-sources.ensures)
-    (bounded_sources c.args.tracks.now c.args.medias.now c.requires.bounded)
+pub returns-clause-sound : goal.returns-clause-sound
+returns-clause-sound g c =
+    let placed = c.in_ok-placed in
+    let same = c.in_ok-keep.ensures.followed ∙ moved_is placed.placed c.args.tracks.now c.args.medias c.requires.one_each in
+    rw same (rw c.as_slice.ensures at placed.ensures.sound)
+
+pub returns-clause-next : goal.returns-clause-next
+returns-clause-next g c = λ files told.
+    let placed = c.in_ok-placed in
+    let same = c.in_ok-keep.ensures.followed ∙ moved_is placed.placed c.args.tracks.now c.args.medias c.requires.one_each in
+    (rw c.as_slice.ensures at (placed.ensures.next files told)) ∙ ap Ok (sym same)

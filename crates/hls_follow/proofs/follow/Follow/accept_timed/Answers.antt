@@ -1,8 +1,13 @@
 use Rattle.hls_follow.proofs.follow.Follow.accept_timed.Goals as goal
-use Rattle.std.proofs.{Common.{◌∙◌, ap}, lemmas.Result.err_from_is_err_and}
+use Rattle.std.proofs.{Common.{refl, sym, ◌∙◌, ap, length}, lemmas.Result.err_from_is_err_and}
 use Rattle.std.specs.Option.{option_copied}
 use Rattle.hls_follow.specs.Rounds.{Following}
 use Rattle.hls_follow.proofs.Accepting.{appended_is, sound_of, timed_is, timed_refused}
+
+pub time_round-requires-clause-one_each : goal.time_round-requires-clause-one_each
+time_round-requires-clause-one_each g c =
+    let tracks = c.as_slice.ensures ∙ c.tracks.ensures ∙ ap (λ (f : Following). f.tracks) c.self.view_is in
+    c.requires.one_each ∙ ap length (sym tracks)
 
 pub time_round-requires-clause-sound : goal.time_round-requires-clause-sound
 time_round-requires-clause-sound g c = rw c.as_ref.ensures.value (sound_of c.self.inside.followed c.self.invariant)
@@ -14,8 +19,8 @@ returns-in_err-followed-clause-next g c = λ files told.
     let former = c.as_ref.ensures.value ∙ ap (λ (f : Following). f.followed) c.self.view_is in
     let fault = err_from_is_err_and c.from_residual.result c.from_residual.ensures.1 in
     rw (fault.1, fault.2)
-    (timed_refused f c.args.now c.args.medias.now c.as_slice-2.result.now c.as_slice.result.now (option_copied c.as_ref.result) tracks
-    former c.as_slice-2.ensures c.args.folder.now files c.in_err-followed.field-0.0 (c.in_err-followed.ensures.next files told))
+    (timed_refused f c.args.now c.args.medias c.args.medias c.as_slice.result.now (option_copied c.as_ref.result) tracks
+    former refl c.args.folder.now files c.in_err-followed.field-0.0 (c.in_err-followed.ensures.next files told))
 
 pub returns-clause-next : goal.returns-clause-next
 returns-clause-next g c = λ files told.
@@ -23,8 +28,8 @@ returns-clause-next g c = λ files told.
     let master = ap (λ (f : Following). f.tracks) c.self.view_is in
     let tracks = c.as_slice.ensures ∙ c.tracks.ensures ∙ master in
     let former = c.as_ref.ensures.value ∙ ap (λ (f : Following). f.followed) c.self.view_is in
-    timed_is f c.args.now c.args.medias.now c.as_slice-2.result.now c.as_slice.result.now (option_copied c.as_ref.result) tracks former
-    c.as_slice-2.ensures c.args.folder.now files c.self.inside.master c.in_ok-followed.field-0.followed master
+    timed_is f c.args.now c.args.medias c.args.medias c.as_slice.result.now (option_copied c.as_ref.result) tracks former
+    refl c.args.folder.now files c.self.inside.master c.in_ok-followed.field-0.followed master
     (c.in_ok-followed.ensures.next files told)
 
 pub returns-clause-appended : goal.returns-clause-appended
@@ -33,5 +38,5 @@ returns-clause-appended g c =
     let tracks = c.as_slice.ensures ∙ c.tracks.ensures ∙ ap (λ (f : Following). f.tracks) c.self.view_is in
     let former = c.as_ref.ensures.value ∙ ap (λ (f : Following). f.followed) c.self.view_is in
     c.in_ok-followed.ensures.appended
-    ∙ appended_is f c.args.now c.args.medias.now c.as_slice-2.result.now c.as_slice.result.now (option_copied c.as_ref.result) tracks former
-    c.as_slice-2.ensures
+    ∙ appended_is f c.args.now c.args.medias c.args.medias c.as_slice.result.now (option_copied c.as_ref.result) tracks former
+    refl

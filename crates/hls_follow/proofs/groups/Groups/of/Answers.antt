@@ -1,21 +1,14 @@
 use Rattle.hls_follow.proofs.groups.Groups.of.Goals as goal
-use Rattle.std.proofs.{Common.{sym, arith}, lemmas.List.Sums.prefix_len-le-length}
-use Rattle.hls_follow.specs.Groups.{is_of}
-use Rattle.hls_follow.proofs.Cutting.{cut_off}
+use Rattle.std.proofs.Common.{refl, ap, arith, length, length-drop}
+use Rattle.hls_follow.proofs.Cutting.{cut_off, left_whole}
 
-pub split_at-requires : goal.split_at-requires
-split_at-requires c = omega (
-  arith,
-  c.count_of.ensures,
-  prefix_len-le-length
-      (is_of c.in-Some.first.now.segment.section) c.loop-first.rest.now,
-)
-
-pub loop-first-preserved : goal.loop-first-preserved
-loop-first-preserved c =
-    let l = c.loop-first in
-    let first = c.in-Some.first.now in
-    let parts = c.split_at.result in
-    rw c.in_ok-push.ensures.items
-    (cut_off l.groups.items parts.0 c.count_of.result l.rest.now parts.1.now c.args.segments.now first (sym c.in-Some.ensures.value)
-    c.count_of.ensures c.split_at.ensures.front c.split_at.ensures.back l.invariant)
+pub loop-start-preserved : goal.loop-start-preserved
+loop-start-preserved c =
+    let l = c.loop-start in
+    let all = c.args.segments.now in
+    let first = c.first_of-group in
+    record {
+      told = rw c.in_ok-push.ensures.items
+          (cut_off l.groups.items first.result l.start _ all refl first.ensures.cut l.invariant.told);
+      fits = omega (arith, first.ensures.fits, ap length (left_whole l.start all), length-drop l.start all, l.invariant.fits);
+    }

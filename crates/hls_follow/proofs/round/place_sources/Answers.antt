@@ -1,7 +1,7 @@
 use Rattle.std.proofs.Common.{map, ap, ◌∙◌}
 use Rattle.hls_presentation.specs.Views.{source_of}
 use Rattle.hls_follow.proofs.Bounded.{bounded_kept}
-use Rattle.hls_follow.proofs.round.follow_sources.Goals as goal
+use Rattle.hls_follow.proofs.round.place_sources.Goals as goal
 
 pub judge_tracks-requires-clause-bounded : goal.judge_tracks-requires-clause-bounded
 judge_tracks-requires-clause-bounded c =
