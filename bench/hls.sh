@@ -11,30 +11,16 @@ cat > "$work/hls.py" <<'PY'
 import os, re, shutil, sys
 
 from measure import measure
+from media import timeline_mpd
 from readers import installed
 
 bridge, work, table = sys.argv[1:]
 os.chdir(work)
 
-def mpd(count):
-    """An MPD with one Representation and so many S, whose durations differ."""
-    rows, at = [], 0
-    for k in range(count):
-        d = 180_000 + k * 7_919 % 1_000
-        rows.append(f'          <S t="{at:012d}" d="{d}"/>\n')
-        at += d
-    name = f"{count}.mpd"
-    with open(name, "w") as it:
-        it.write('<?xml version="1.0"?>\n<MPD xmlns="urn:mpeg:dash:schema:mpd:2011" profiles="urn:mpeg:dash:profile:full:2011" minBufferTime="PT2S">\n<Period>\n<AdaptationSet mimeType="video/mp4">\n'
-                 '<Representation id="v0" bandwidth="1000000" codecs="avc1.64001f">\n'
-                 '<SegmentTemplate timescale="90000" initialization="v0/init.mp4" media="v0/$Number%06d$.m4s">\n<SegmentTimeline>\n'
-                 + "".join(rows) + "</SegmentTimeline>\n</SegmentTemplate>\n</Representation>\n</AdaptationSet>\n</Period>\n</MPD>\n")
-    return name
-
 def ours(name):
     return measure([bridge, "hls", name, "--base=https://h.example/"])
 
-sizes = {count: mpd(count) for count in (1_000, 10_000, 100_000)}
+sizes = {count: timeline_mpd(count) for count in (1_000, 10_000, 100_000)}
 big = sizes[100_000]
 ms, mb = ours(big)
 rows = [("bridge hls", ms, mb)]

@@ -1,4 +1,5 @@
-"""Media files for the scripts of this folder: boxes that are made, what ffmpeg decodes, and a server of the current folder on 127.0.0.1."""
+"""Media files and an MPD for the scripts of this folder: boxes that are made, an MPD of many S, what ffmpeg decodes, and a server of the
+current folder on 127.0.0.1."""
 import http.server
 import re
 import struct
@@ -21,6 +22,20 @@ def initial(scale, *more):
 def fragment(start, *more):
     """A segment whose first sample is decoded at so many ticks (8.8.12)."""
     return box(b"moof", box(b"traf", box(b"tfdt", struct.pack(">IQ", 1 << 24, start))), *more) + box(b"mdat", bytes(9))
+
+
+def timeline_mpd(count):
+    """An MPD with one Representation and so many S, whose durations differ."""
+    rows, at = [], 0
+    for k in range(count):
+        d = 180_000 + k * 7_919 % 1_000
+        rows.append(f'          <S t="{at:012d}" d="{d}"/>\n')
+        at += d
+    return put(f"{count}.mpd", '<?xml version="1.0"?>\n<MPD xmlns="urn:mpeg:dash:schema:mpd:2011" '
+               'profiles="urn:mpeg:dash:profile:full:2011" minBufferTime="PT2S">\n<Period>\n<AdaptationSet mimeType="video/mp4">\n'
+               '<Representation id="v0" bandwidth="1000000" codecs="avc1.64001f">\n'
+               '<SegmentTemplate timescale="90000" initialization="v0/init.mp4" media="v0/$Number%06d$.m4s">\n<SegmentTimeline>\n'
+               + "".join(rows) + "</SegmentTimeline>\n</SegmentTemplate>\n</Representation>\n</AdaptationSet>\n</Period>\n</MPD>\n")
 
 
 def put(name, content):
