@@ -89,7 +89,7 @@ def run(words, folder, given):
 
 def fault_of(status, seconds, mib, told, error, before, after, out):
     """What a run did that it may not do."""
-    lines = told.split(b"\n")
+    lines = [line for line in told.split(b"\n") if not line.startswith(b"  ")]  # but for what `--explain` appends
     if status not in LAST or error or lines.pop() or not lines or not re.fullmatch(LAST[status], lines[-1]):
         return f"ends as {status}"
     if seconds > 5 or mib > 600:
