@@ -39,6 +39,7 @@ impl<'a> FileWriter<'a> {
     }
 
     /// Adds a piece of any length to the text. After an error the file holds a prefix of the text.
+    #[inline(always)]
     pub fn push<F: Store>(&mut self, store: &mut F, piece: &[u8]) -> Result<(), Fail>
         ensures target { target self.new ≡ target self.old }
         ensures ok { OnOk result ((text : List ℕ) (first : Option Files) → IsBehind self.old text first (F.files store.old)
@@ -48,13 +49,23 @@ impl<'a> FileWriter<'a> {
         ensures cause { HasCause Failed (F.write_faults store.old) (F.write_faults store.new) result }
         ensures reads { F.read_faults store.new ≡ F.read_faults store.old }
     {
-        if piece.len() <= PIECE {
+        if piece.len() <= self.room() {
             return self.hold(store, piece);
         }
         self.push_parts(store, piece)
     }
 
-    /// Adds a piece in parts of at most 4,096 bytes.
+    /// How many bytes of a piece are held next: as many as the buffer has room for, or all that it can have once it is full.
+    #[inline(always)]
+    fn room(&self) -> usize
+        ensures some { 0 < result }
+        ensures bounded { result ≤ PIECE }
+    {
+        let room = PIECE - self.held.len();
+        if room == 0 { PIECE } else { room }
+    }
+
+    /// Adds a piece in parts that fill the buffer.
     fn push_parts<F: Store>(&mut self, store: &mut F, piece: &[u8]) -> Result<(), Fail>
         ensures target { target self.new ≡ target self.old }
         ensures ok { OnOk result ((text : List ℕ) (first : Option Files) → IsBehind self.old text first (F.files store.old)
@@ -66,7 +77,7 @@ impl<'a> FileWriter<'a> {
     {
         let mut rest = piece;
         while !rest.is_empty() {
-            let (front, back) = rest.split_at(rest.len().min(PIECE));
+            let (front, back) = rest.split_at(rest.len().min(self.room()));
             self.hold(store, front)?;
             rest = back;
         }
@@ -74,6 +85,7 @@ impl<'a> FileWriter<'a> {
     }
 
     /// Adds a piece of at most 4,096 bytes. Flushes the buffer first where the piece doesn't fit.
+    #[inline(always)]
     fn hold<F: Store>(&mut self, store: &mut F, piece: &[u8]) -> Result<(), Fail>
         requires { length piece.now ≤ PIECE }
         ensures target { target self.new ≡ target self.old }
