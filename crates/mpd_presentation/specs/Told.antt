@@ -3,12 +3,12 @@ use Rattle.template_ids.specs.declared.fault.TemplateFault.TheVariants as templa
 use Rattle.url_parts.specs.declared.fault.UrlFault.TheVariants as url
 use Rattle.timeline.specs.declared.fault.TimeFault.TheVariants as times
 use Rattle.timeline.specs.declared.names.Names.TheVariants as names
-use Rattle.std.specs.Prelude.{ℕ, ℤ, pos, ◌-◌, ◌&&◌, ◌||◌, nat_lt, not, is_some, Bool, false, List, [], ◌∷◌, ◌++◌, length, map, flat_map}
+use Rattle.std.specs.Prelude.{◌≡◌, ℕ, ℤ, pos, ◌-◌, ◌&&◌, ◌||◌, nat_lt, not, is_some, Bool, false, List, [], ◌∷◌, ◌++◌, length, map, flat_map}
 use Rattle.std.specs.Prelude.{if◌then◌else◌, Option, Some, None, option_map, unwrap_or, Result, Ok, Err}
 use Rattle.bridge_io.specs.{Answer.{gathered, told_as, and_then}, declared.place.Place.Place}
 use Rattle.template_ids.specs.{declared.fault.TemplateFault.TemplateFault, declared.fault.TemplateFault.TheVariants.Unknown}
 use Rattle.template_ids.specs.Templates.{template_of, named, uses_number, uses_time}
-use Rattle.url_parts.specs.{Addresses.chain, declared.address.Part.Part, declared.fault.UrlFault.UrlFault}
+use Rattle.url_parts.specs.{Addresses.{chain, resolve, IsBase}, declared.address.Part.Part, declared.fault.UrlFault.UrlFault}
 use Rattle.timeline.specs.{declared.entry.End.End, declared.entry.End.TheVariants.{At, Unbounded}, declared.fault.TimeFault.TimeFault}
 use Rattle.timeline.specs.{declared.names.Names.Names, Expansions.SegmentTimeline, Names.referred}
 use Rattle.timeline.specs.SegmentTimelines.{timeline_of_entries, timeline_of_duration}
@@ -92,6 +92,10 @@ base_of url d = told_as (at_url d.place) (chain url d.bases)
 
 abbrev pub init_name : Description → List ℕ → List ℕ
 init_name d template = named template (record { id = d.id; bandwidth = d.bandwidth; number = 0; time = 0 })
+
+-- the names by both templates give the same URL against each base
+abbrev pub NamesSame : Description → (template short : List ℕ) → Type 0
+NamesSame d template short = (base : List ℕ) → IsBase base → resolve base (init_name d short) ≡ resolve base (init_name d template)
 
 -- the reference of the init segment: by the template, otherwise that of the Initialization element
 abbrev pub init_reference : Description → Segments → Option (List ℕ) → Option (List ℕ)

@@ -5,6 +5,7 @@ ghost use Rattle.mpd_rules.specs.Views.{bases_left};
 ghost use Rattle.template_ids.specs.Templates.{template_of, refusal as template_refusal};
 ghost use Rattle.url_parts.specs.Addresses.{chain, resolve, refusal as url_refusal};
 
+use crate::by_length::{HasLength, keep};
 use crate::initializations::Initializations;
 use bridge_io::{NoMemory, Text};
 use mpd_rules::BaseWalk;
@@ -14,12 +15,14 @@ use template_ids::{Template, TemplateFault};
 use timeline::MediaTemplate;
 use url_parts::{Address, Base, UrlFault};
 
-/// The results for the previous Representation, reused where the next one has the same.
+/// The results for Representations before, reused where the next one has the same.
 #[derive(Drop)]
 pub(crate) struct Former {
-    media: Option<MediaTemplate>,
-    init: Option<Template>,
-    /// The results of its BaseURLs, from the MPD down.
+    /// The templates of segment URLs, by length.
+    media: Vec<MediaTemplate>,
+    /// The templates of init segments' URLs, by length.
+    init: Vec<MediaTemplate>,
+    /// The results of the BaseURLs of the previous one, from the MPD down.
     steps: Vec<Step>,
     initializations: Initializations,
 }
@@ -37,8 +40,8 @@ impl Former {
     /// The empty cache.
     pub(crate) fn none(alloc: Global) -> Former {
         Former {
-            media: None,
-            init: None,
+            media: Vec::new(alloc),
+            init: Vec::new(alloc),
             steps: Vec::new(alloc),
             initializations: Initializations::none(alloc),
         }
@@ -57,28 +60,14 @@ impl Former {
     ) -> Result<MediaTemplate, TemplateFault>
         ensures { Gives (λ template. template) template_refusal result (template_of text.now) }
     {
-        if let Some(media) = &self.media {
-            if media.template().as_str() == text {
-                return Ok(media.share()?);
-            }
-        }
-        let media = MediaTemplate::of(alloc, Template::read(alloc, text)?)?;
-        self.media = Some(media.share()?);
-        Ok(media)
+        template(alloc, &mut self.media, text)
     }
 
     /// The template of the init segment's URL.
-    pub(crate) fn init(&mut self, alloc: Global, text: &str) -> Result<Template, TemplateFault>
+    pub(crate) fn init(&mut self, alloc: Global, text: &str) -> Result<MediaTemplate, TemplateFault>
         ensures { Gives (λ template. template) template_refusal result (template_of text.now) }
     {
-        if let Some(template) = &self.init {
-            if template.as_str() == text {
-                return Ok(template.share()?);
-            }
-        }
-        let template = Template::read(alloc, text)?;
-        self.init = Some(template.share()?);
-        Ok(template)
+        template(alloc, &mut self.init, text)
     }
 
     /// The base that references give, each resolved against the one before.
@@ -141,4 +130,28 @@ impl Step {
             to,
         })
     }
+}
+
+impl HasLength for MediaTemplate {
+    fn length(&self) -> usize {
+        self.template().as_str().len()
+    }
+}
+
+/// The template of a text, made anew only where none is kept for it.
+fn template(
+    alloc: Global,
+    kept: &mut Vec<MediaTemplate>,
+    text: &str,
+) -> Result<MediaTemplate, TemplateFault>
+    ensures { Gives (λ template. template) template_refusal result (template_of text.now) }
+{
+    for media in kept.iter() {
+        if media.template().as_str() == text {
+            return Ok(media.share()?);
+        }
+    }
+    let media = MediaTemplate::of(alloc, Template::read(alloc, text)?)?;
+    keep(kept, media.share()?)?;
+    Ok(media)
 }

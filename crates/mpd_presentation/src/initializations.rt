@@ -3,6 +3,7 @@ ghost use Rattle.std.specs.Prelude.{◌≡◌, true, IfOk, IfSome, Ok};
 ghost use Rattle.bridge_io.specs.Answer.{Gives};
 ghost use Rattle.url_parts.specs.Addresses.{resolve, refusal};
 
+use crate::by_length::{HasLength, keep};
 use bridge_io::{NoMemory, Text};
 use std::alloc::Global;
 use url_parts::{Address, Base, UrlFault};
@@ -19,8 +20,8 @@ pub(crate) struct Initializations {
     all: Vec<Resolved>,
     /// How many of them are of the Period.
     count: usize,
-    /// The last one with a longer reference.
-    long: Option<Resolved>,
+    /// Those with longer references, by length.
+    long: Vec<Resolved>,
 }
 
 /// The URL that a reference gave.
@@ -38,7 +39,7 @@ impl Initializations {
         Initializations {
             all: Vec::new(alloc),
             count: 0,
-            long: None,
+            long: Vec::new(alloc),
         }
     }
 
@@ -82,14 +83,30 @@ impl Initializations {
         if let Some(last) = address_of(alloc, last, base, reference)? {
             return Ok(Some(last));
         }
-        address_of(alloc, self.long.as_ref(), base, reference)
+        self.known_long(alloc, base, reference)
+    }
+
+    /// The URL, where it is kept for a longer reference.
+    fn known_long(
+        &self,
+        alloc: Global,
+        base: &Base,
+        reference: &str,
+    ) -> Result<Option<Address>, NoMemory>
+        ensures { IfOk result (λ known. IfSome known (λ address. resolve base.now reference.now ≡ Ok address)) }
+    {
+        for long in self.long.iter() {
+            if let Some(address) = address_of(alloc, Some(long), base, reference)? {
+                return Ok(Some(address));
+            }
+        }
+        Ok(None)
     }
 
     /// Keeps one that wasn't known.
     fn keep(&mut self, resolved: Resolved) -> Result<(), NoMemory> {
         if resolved.reference.as_str().len() > MAX_KEPT_LEN {
-            self.long = Some(resolved);
-            return Ok(());
+            return keep(&mut self.long, resolved);
         }
         match self.all.get_mut(self.count) {
             Some(former) => *former = resolved,
@@ -112,6 +129,12 @@ impl Resolved {
             reference,
             to,
         })
+    }
+}
+
+impl HasLength for Resolved {
+    fn length(&self) -> usize {
+        self.reference.as_str().len()
     }
 }
 

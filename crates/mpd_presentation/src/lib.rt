@@ -1,6 +1,7 @@
 //! The presentation of an MPD, or its first error, and what an MPD means.
 #![tactic(auto)]
 
+mod by_length;
 mod checks;
 mod described;
 mod former;

@@ -199,7 +199,7 @@ fn init_of(
     told: &Addressing<'_>,
     place: Place,
     former: &mut Former,
-) -> Result<Option<Template>, PresentationFault>
+) -> Result<Option<MediaTemplate>, PresentationFault>
     ensures { Gives (λ template. template) refusal result (spec.init_of place (addressed told.now)) }
 {
     let Some(text) = told.init_template() else {
@@ -211,14 +211,19 @@ fn init_of(
     }
 }
 
-fn init_template(alloc: Global, text: &str, former: &mut Former) -> Result<Template, TemplateFault>
+fn init_template(
+    alloc: Global,
+    text: &str,
+    former: &mut Former,
+) -> Result<MediaTemplate, TemplateFault>
     ensures { Gives (λ template. template) template_refusal result (spec.init_template_of text.now) }
 {
-    let template = former.init(alloc, text)?;
+    let init = former.init(alloc, text)?;
+    let template = init.template();
     if template.uses_number() || template.uses_time() {
         return Err(TemplateFault::Unknown);
     }
-    Ok(template)
+    Ok(init)
 }
 
 /// The base that the BaseURLs of a Representation give.
@@ -241,7 +246,7 @@ fn initialization_of(
     alloc: Global,
     row: &RepView<'_>,
     told: &Addressing<'_>,
-    template: &Option<Template>,
+    template: &Option<MediaTemplate>,
     base: &Base,
     former: &mut Former,
 ) -> Result<Part, PresentationFault>
@@ -261,7 +266,7 @@ fn init_address(
     alloc: Global,
     row: &RepView<'_>,
     told: &Addressing<'_>,
-    template: &Option<Template>,
+    template: &Option<MediaTemplate>,
     base: &Base,
     former: &mut Former,
 ) -> Result<Address, UrlFault>
@@ -278,7 +283,7 @@ fn init_address(
 fn named_address(
     alloc: Global,
     row: &RepView<'_>,
-    template: &Template,
+    template: &MediaTemplate,
     base: &Base,
     former: &mut Former,
 ) -> Result<Address, UrlFault>
@@ -286,11 +291,20 @@ fn named_address(
         (resolve base.now (spec.init_name (row_of row.now).description template.now)) }
 {
     let _ = base.as_str(); // opens the value, for its invariant
-    if is_too_long(row, template) {
+    let short = short_of(row, template);
+    if is_too_long(row, short) {
         return Err(UrlFault::TooLong);
     }
-    let name = init_name(alloc, row, template)?;
+    let name = init_name(alloc, row, short)?;
     former.address(alloc, base, name.as_str())
+}
+
+/// The shortest template whose name for the init segment gives the same URL.
+fn short_of<'a>(row: &RepView<'_>, template: &'a MediaTemplate) -> &'a Template
+    ensures { spec.NamesSame (row_of row.now).description template.now result.now }
+{
+    let _ = row.bandwidth(); // for its bound
+    template.for_id(row.id())
 }
 
 /// Whether an init segment's name is known to be longer than any URL before it is put together.

@@ -65,7 +65,7 @@ impl MediaTemplate {
     }
 
     /// The shortest template that gives the same URLs with an id.
-    pub(crate) fn for_id(&self, id: &str) -> &Template
+    pub fn for_id(&self, id: &str) -> &Template
         ensures { GivesSame self.now id.now result.now }
     {
         if let Some(short) = &self.short {

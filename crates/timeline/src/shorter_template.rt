@@ -22,7 +22,7 @@ pub fn line_of(alloc: Global, template: &Template) -> Result<Option<Template>, N
     Ok(line)
 }
 
-/// A template that is a path without the segments that are taken back, where it may have some.
+/// A template that is a path without the segments that are taken back, where that has at most half its bytes.
 pub fn short_of(alloc: Global, template: &Template) -> Result<Option<Template>, NoMemory>
     ensures { IfOk result (λ short. IfSome short (IsShortFor template.now)) }
 {
@@ -31,7 +31,9 @@ pub fn short_of(alloc: Global, template: &Template) -> Result<Option<Template>, 
         return Ok(None);
     }
     match shortened(alloc, template, true)? {
-        Some(short) if is_path(short.as_str()) => Ok(Some(short)),
+        Some(short) if is_path(short.as_str()) && short.as_str().len() <= text.len() / 2 => {
+            Ok(Some(short))
+        }
         _ => Ok(None),
     }
 }

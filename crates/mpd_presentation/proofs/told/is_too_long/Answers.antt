@@ -1,5 +1,4 @@
-use Rattle.std.proofs.Common.{◌≡◌, lit<, subst, arith}
-use Rattle.template_ids.specs.Long.{ForEach, IsAtLeast, IsSegment, names_of}
+use Rattle.std.proofs.Common.{lit<, arith}
 use Rattle.mpd_presentation.proofs.told.is_too_long.Goals as goal
 
 pub returns-then-least_len-gt-MAX_URL_LEN : goal.returns-then-least_len-gt-MAX_URL_LEN

@@ -1,11 +1,17 @@
 use Rattle.mpd_presentation.proofs.told.Setting.all_told.Goals as goal
-use Rattle.std.proofs.{Common.{map, ap, ◌++◌, ◌∙◌, sym}, lemmas.List.Elements.All-rest}
+use Rattle.std.proofs.{Common.{map, ap, ◌++◌, ◌∙◌, subst, sym, All}, lemmas.List.Elements.{All-head, All-rest}}
 use Rattle.mpd_levels.specs.declared.addressing.SegmentRow.{SegmentRow}
 use Rattle.mpd_rules.specs.{declared.rows.PeriodRow.PeriodRow, Held.Keyed, Typed.period_with, Views.{period_in, periods_left}}
 use Rattle.mpd_presentation.specs.{Shared.AreOf, Rows.{all_left, period_of, shown}, Told.period_told}
 use Rattle.bridge_io.specs.Answer.{gathered}
 use Rattle.presentation.proofs.Gathering.{behind, goes_on, stops}
 use Rattle.mpd_presentation.proofs.Parting.{all_so_far, none_so_far, parted_more}
+
+pub period_told-requires : goal.period_told-requires
+period_told-requires c =
+    let Of = λ (period : PeriodRow (Keyed SegmentRow)). AreOf c.args.self.now.shared.now period.tracks in
+    All-head Of (period_in c.in-Some.period) (periods_left c.next.new.self)
+    (subst (All Of) c.in-Some.ensures.steps c.loop-period.invariant.shared)
 
 pub returns-in-Err : goal.returns-in-Err
 returns-in-Err c =
