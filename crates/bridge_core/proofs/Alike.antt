@@ -1,19 +1,22 @@
 -- Forms and addresses change the texts of files alone.
-use Rattle.std.proofs.Common.{◌≡◌, ℕ, ℤ, ◌+◌, ◌==◌, ◌^◌, Bool, true, false, List, [], ◌∷◌, ◌++◌, map, length, if◌then◌else◌, Option, None, Some}
+use Rattle.std.proofs.Common.{◌≡◌, ℕ, ℤ, ◌+◌, ◌==◌, ◌^◌, Bool, true, false, List, [], ◌∷◌, ◌++◌, map, length, if◌then◌else◌, Option, None}
+use Rattle.std.proofs.Common.{Some}
 use Rattle.std.proofs.{Common.{option_map, Result, Ok, Err, refl, sym, ap, ap₂, ◌∙◌}, lemmas.List.map-append}
 use Rattle.std.specs.{List.range_with_len, Option.option_map_or, Result.{result_ok, result_err}}
 use Rattle.bridge_io.specs.{Answer.{and_then, told_as}, Outside.Files}
 use Rattle.bridge_jobs.specs.declared.jobs.{Addresses.Addresses, FollowJob.FollowJob, HlsJob.HlsJob, IndexJob.IndexJob}
 use Rattle.bridge_jobs.specs.{Frames.start, declared.frame.Frame.Frame}
-use Rattle.bridge_courses.specs.{Courses.{Course, Step}, Steps.with_step}
+use Rattle.bridge_courses.specs.{Courses.{Course, Step}, Steps.{taking, with_step}}
 use Rattle.live_meaning.specs.{Refusals.{Refusal as LiveRefusal, begun_of}, States.State, Updates.{Terms, Values}}
 use Rattle.presentation.specs.{Counting.tracks_of, Presented.Presented}
-use Rattle.bridge_report.specs.{Following.{Followed, accepted_with, course_from, line_by, next_of, step_of, unless_refused}, Outcomes.{Outcome, course_by}, Reading.{Named, content_of}}
+use Rattle.bridge_report.specs.Following.{Followed, accepted_with, course_from, line_by, next_of, step_of, unless_refused}
+use Rattle.bridge_report.specs.{Outcomes.{Outcome, course_by}, Reading.{Named, content_of}}
 use Rattle.bridge_report.specs.{Reading.of_file, Refusals.refusal_text, declared.refusal.Refusal.Refusal}
 use Rattle.bridge_playlists.specs.{Places.store_place_of, declared.place.StorePlace.StorePlace}
 use Rattle.bridge_steps.specs.{Endings.{outcome_written, placed}, Follow.{course_placed, fault_line}, Manifests.{ready_of, values_of}}
 use Rattle.bridge_steps.specs.{Players.players_in, Playlists.{OutputPlace, base_if, master_file, playlists, track_file}}
-use Rattle.bridge_live.specs.LiveMpds.{channel_files, channel_with, followed_mpd, frame_stream, frame_state, live_files, session_of, told_of}
+use Rattle.bridge_live.specs.LiveMpds.{channel_files, channel_with, followed_mpd, frame_stream, frame_state, live_files, session_of}
+use Rattle.bridge_live.specs.LiveMpds.{told_of}
 use Rattle.bridge_live.specs.LiveMpds.{frame_appends, frame_refusal, judged_channel, players_after, track_file as live_track_file}
 use Rattle.bridge_live.specs.declared.channel.Channel.{Channel}
 use Rattle.bridge_reach.specs.Index.{files_of as indexed_files, line_of as indexed_line, ready_in, told_at, told_in, with_players}
@@ -283,8 +286,8 @@ module _ (j : FollowJob) (form : Form) (addresses : Addresses) where
   follow_placed None place = refl
   follow_placed (Some input) place =
       let stream = frame_stream start input in
-      ap Some (frames_alike j.form form (record { url = place.url; digits = j.digits }) j.out (base_if j.addresses j.base)
-      (base_if addresses j.base) stream.0 None None 0 0 (option_map fault_line stream.1) refl)
+      ap (λ course. Some (taking stream.2 course)) (frames_alike j.form form (record { url = place.url; digits = j.digits }) j.out
+      (base_if j.addresses j.base) (base_if addresses j.base) stream.0 None None 0 0 (option_map fault_line stream.1) refl)
 
   by_place : (input : Option (List ℕ)) (place : Option StorePlace)
       → option_map course_told (course_placed (follow_at j input) place)

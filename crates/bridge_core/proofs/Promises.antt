@@ -196,7 +196,8 @@ module _ (names : FoldersHoldTheirFiles) (hold : FoldersHoldFiles) (meant : Text
               (spelling_in (output_of_job job)) (said job bytes) read.came (players_fit fit Segments job.form bytes)
               found
               (record { longest = read.longest; is = read.all }) asked.1 (base_folder job.base lies.is_base) (room p few)
-              (λ t less. spells_in job.addresses job.base job.out t) (are_written (output_of_job job) (said job bytes) job.digits p first few);
+              (λ t less. spells_in job.addresses job.base job.out t)
+              (are_written (output_of_job job) (said job bytes) job.digits p first few);
         }
 
     live_means : (bytes : List ℕ) (mpd : Values) (now : ℤ) (s : State) → IsSpelled bytes mpd → job.instant ≡ Some now
@@ -238,7 +239,8 @@ module _ (names : FoldersHoldTheirFiles) (hold : FoldersHoldFiles) (meant : Text
               (spelling_in (output_of_job job)) (said job bytes) (players_fit fit Segments job.form bytes) followed begun
               (base_folder job.base lies.is_base) (room p few)
               (λ t less. spells_in job.addresses job.base job.out t)
-              (first_written (output_of_job job) (said job bytes) s first (ap (λ (s : State). s.common.accepted) is.state) (omega (arith, few, many)));
+              (first_written (output_of_job job) (said job bytes) s first (ap (λ (s : State). s.common.accepted) is.state)
+              (omega (arith, few, many)));
         }
 
     means_by : (bytes : List ℕ) (value : Translation) → IsStaticAt job place.url bytes value ⊎ IsLiveAt job place.url bytes value

@@ -13,7 +13,7 @@ use Rattle.bridge_core.proofs.Blamed.{other_course}
 
 pub none_worked : (w : World) → Work (course_by no_job) ending.Words w w
 none_worked w = record {
-  works = works no_job ending.Words w w (refl, refl, refl) (λ is. absurd (cc)) (λ is. absurd (cc)) refl (λ counts. refl);
+  works = works no_job ending.Words w w (refl, refl, refl) (λ is. absurd (cc)) (λ is. absurd (cc)) refl refl (λ counts. refl);
   never_falls = stays w;
 }
 
@@ -34,9 +34,9 @@ same_worked j found files input told w w' is work =
 -- a job that isn't followed does what its outcome says
 pub command_worked : (j : Job) (other : Follows (Some j) → ⊥) (files : Option Files) (input : Option (List ℕ)) (told : Ending)
     (w w' : World)
-    → JobEndsAs (outcome_of_job (Some j) files) told (met w) (met w') → w'.input_faults ≡ w.input_faults
+    → JobEndsAs (outcome_of_job (Some j) files) told (met w) (met w') → w'.input ≡ w.input → w'.input_faults ≡ w.input_faults
     → w'.report_faults ≡ w.report_faults
     → w'.report ≡ w.report → ForSome (course_of_job (Some j) files input) (λ course. Work course told w w')
-command_worked j other files input told w w' done inputs reports report =
+command_worked j other files input told w w' done unread inputs reports report =
     subst (λ o. ForSome o (λ course. Work course told w w')) (sym (other_course j other files input))
-    (work_of (outcome_of_job (Some j) files) told w w' done.ends inputs reports report)
+    (work_of (outcome_of_job (Some j) files) told w w' done.ends unread inputs reports report)

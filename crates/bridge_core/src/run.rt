@@ -51,7 +51,7 @@ pub fn bridge<I: Source, F: Store, P: Sink, L: Ledger>(
     steps: &mut Steps<L>,
 ) -> Status
     // The run does what the command line, the store's files and the input say, unless an I/O error or out of memory
-    // ends it.
+    // ends it. It reads no further of the input than for the update after those that are done.
     ensures run { ForSome (course_of words.now (F.files store.old) (I.remaining input.old)) (λ course. IsExecution course result
         (world_of I.Source F.Store P.Sink input.old store.old report.old steps.old)
         (world_of I.Source F.Store P.Sink input.new store.new report.new steps.new)) }

@@ -21,7 +21,7 @@ pub files_told : (told : Ending) (end : Status) (before after : World) → Tells
 files_told told end before after tells = ap (λ world. world.files) tells.same
 
 -- how a run ends whose status is a verdict's
-verdict_finishes : (course : Course) (v : Verdict) (before after : World) (run : IsExecution course (status_by v) before after)
+pub verdict_finishes : (course : Course) (v : Verdict) (before after : World) (run : IsExecution course (status_by v) before after)
     → Finishes course v (line_of run.how) before run.mid
 verdict_finishes course v before after run =
     elim (told_as run.how (status_by v) run.mid.report_faults after.report_faults run.mid.report after.report run.tells.told_as) [
@@ -71,7 +71,10 @@ read_fault_keeps_files course before after first run = let fails = reading cours
     files_told run.how status.ReadFault run.mid after run.tells ∙ fails.files ∙ first before fails.mid fails.step fails.reaches fails.reads
 
 pub read_fault_rose : ReadFaultRose
-read_fault_rose course before after run = let same = run.tells.same in rw same (reading course before after run).rose
+read_fault_rose course before after run = let same = run.tells.same in elim (reading course before after run).rose [
+  | inl rose ↦ inl (rw same rose.0)
+  | inr rose ↦ inr (rw same rose.0)
+]
 
 -- a count that rose in the work or at its end
 pub write_fault_rose : WriteFaultRose
@@ -96,7 +99,7 @@ ended_calmly : (course : Course) (told : Ending) (before mid : World) → Works 
 ended_calmly course (ending.Ended v line) before mid works calm = inl (ap status_by works.verdict)
 ended_calmly course ending.Words before mid works calm = inl (ap status_by works.verdict)
 ended_calmly course ending.ReadFault before mid works calm =
-    absurd (elim works.rose [ inl rose ↦ calm.reads rose | inr rose ↦ calm.input rose ])
+    absurd (elim works.rose [ inl rose ↦ calm.reads rose.0 | inr rose ↦ calm.input rose.0 ])
 ended_calmly course ending.WriteFault before mid works calm = absurd (calm.writes works.rose)
 ended_calmly course ending.Memory before mid works calm = inr refl
 ended_calmly course (ending.Cut fail.Failed) before mid works calm = absurd (calm.report works.1)

@@ -3,3 +3,4 @@ pub mod Others
 pub mod ExecutionLaws
 pub mod Stepping
 pub mod StepLaws
+pub mod InputLaws

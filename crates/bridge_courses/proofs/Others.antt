@@ -107,10 +107,10 @@ module _ (name : List ℕ) (course : Course) (others : IsElsewhere name course) 
 
   Keeps-wanting : (before after : World) → WantsMemory course before after → Keeps name before.files after.files
   Keeps-wanting before after works = Keeps-on before works.mid after works.step works.reaches (elim works.left [
-    | inl (same, made) ↦ Keeps_same name works.mid.files after.files same
-    | inr (inl begun, made) ↦ Keeps-begun works.step.files works.mid.files after.files
+    | inl none ↦ Keeps_same name works.mid.files after.files none.0
+    | inr (inl begun, made, input) ↦ Keeps-begun works.step.files works.mid.files after.files
         (step_others before works.mid works.step works.reaches) begun
-    | inr (inr changes, made) ↦ Keeps-put_all name works.step.files works.mid.files after.files
+    | inr (inr changes, made, input) ↦ Keeps-put_all name works.step.files works.mid.files after.files
         (step_others before works.mid works.step works.reaches) changes
   ])
 

@@ -18,11 +18,11 @@ use Rattle.bridge_courses.proofs.{ExecutionLaws.report_of_whole, Stepping.{appen
 
 -- ---- the files
 
-end_next : (steps : List Step) (last : Step) → slice_get (steps ++ last ∷ []) (length steps) ≡ Some last
+pub end_next : (steps : List Step) (last : Step) → slice_get (steps ++ last ∷ []) (length steps) ≡ Some last
 end_next [] last = refl
 end_next (step ∷ steps) last = end_next steps last
 
-finished_leaves : (course : Course) (v : Verdict) (line : List ℕ) (before after : World) → Finishes course v line before after
+abbrev pub finished_leaves : (course : Course) (v : Verdict) (line : List ℕ) (before after : World) → Finishes course v line before after
     → LeavesSteps course before.files after.files
 finished_leaves course v line before after works = record {
   n = length course.steps;
@@ -33,7 +33,7 @@ finished_leaves course v line before after works = record {
   left = inl refl;
 }
 
-reached_leaves : (course : Course) (before mid : World) (after : Option Files) (step : Step) → Reaches course before mid step
+abbrev pub reached_leaves : (course : Course) (before mid : World) (after : Option Files) (step : Step) → Reaches course before mid step
     → ((after ≡ mid.files) ⊎ (AreBegun step.files mid.files after ⊎ Changes (put_all step.files) mid.files after))
     → LeavesSteps course before.files after
 reached_leaves course before mid after step reaches left =

@@ -1,5 +1,6 @@
 -- What a run does where nothing fails: steps in order, and an end.
-use Rattle.std.specs.Prelude.{◌≡◌, ℕ, ◌+◌, ◌≤◌, Bool, IsTrue, List, [], ◌∷◌, ◌++◌, take, slice_get, flat_map, sum_by, Option, Some}
+use Rattle.std.specs.Prelude.{◌≡◌, ℕ, ◌+◌, ◌<◌, ◌≤◌, Bool, IsTrue, List, [], ◌∷◌, ◌++◌, take, drop, slice_get, flat_map, sum_by, Option}
+use Rattle.std.specs.Prelude.{Some, option_map, unwrap_or}
 use Rattle.bridge_io.specs.{Outside.{Files, Changes, Appends}, InOrder.put_all}
 use Rattle.bridge_courses.specs.declared.status.Verdict.{Verdict}
 
@@ -18,16 +19,19 @@ pub record End : Type 0 where
   pub lines : List ℕ
   pub reads : Bool
 
--- `counts` says that the steps bound how many segments are made.
+-- `counts` says that the steps bound how many segments are made. `taken` is how many bytes of standard input are asked for before
+-- each step, and after them before the end; none where it has no more.
 pub record Course : Type 0 where
   pub steps : List Step
   pub end : End
   pub counts : Bool
+  pub taken : List ℕ
 
--- the environment of a run: its I/O, its counts of faults, and how many segments were made
+-- the environment of a run: its I/O with the unread bytes of standard input, its counts of faults, and how many segments were made
 pub record World : Type 0 where
   pub files : Option Files
   pub report : Option (List ℕ)
+  pub input : Option (List ℕ)
   pub input_faults : ℕ
   pub read_faults : ℕ
   pub write_faults : ℕ
@@ -48,6 +52,28 @@ files_of course = flat_map (λ step. step.files) course.steps
 abbrev pub report_of : Course → List ℕ
 report_of course = flat_map (λ step. step.lines) course.steps ++ course.end.lines
 
+-- ---- standard input
+
+-- the bytes that are asked for before the first n steps, and before the step after them, or the end
+abbrev pub taken_to : ℕ → Course → ℕ
+taken_to n course = sum_by (λ count. count) (take n course.taken)
+
+abbrev pub taken_at : ℕ → Course → ℕ
+taken_at n course = unwrap_or (slice_get course.taken n) 0
+
+-- so many bytes of the input were read, or all where there are fewer
+abbrev pub TakesBytes : (count : ℕ) → (before after : Option (List ℕ)) → Type 0
+TakesBytes count before after = after ≡ option_map (drop count) before
+
+-- fewer, and at most so many
+abbrev pub TakesFewer : (count : ℕ) → (before after : Option (List ℕ)) → Type 0
+TakesFewer count before after = (some : ℕ) × (some < count) × TakesBytes some before after
+
+abbrev pub TakesAtMost : (count : ℕ) → (before after : Option (List ℕ)) → Type 0
+TakesAtMost count before after = (some : ℕ) × (some ≤ count) × TakesBytes some before after
+
+-- ---- progress
+
 -- a number of segments between two bounds was made, where the course counts them
 abbrev pub Makes : Course → (least most : ℕ) → (before after : World) → Type 0
 Makes course least most before after = IsTrue course.counts → (before.made + least ≤ after.made) × (after.made ≤ before.made + most)
@@ -62,8 +88,9 @@ pub record Whole (n : ℕ) (course : Course) (before mid : World) : Type 0 where
 abbrev pub last_step : End → Step
 last_step end = record { files = []; lines = end.lines; least = 0; most = 0; reads = end.reads }
 
--- The first n steps are done, and `step` is what follows them: a step, or the end.
+-- The first n steps are done, with no more of the input than they ask for, and `step` is what follows them: a step, or the end.
 pub record Reaches (course : Course) (before mid : World) (step : Step) : Type 0 where
   pub n : ℕ
   pub next : slice_get (course.steps ++ last_step course.end ∷ []) n ≡ Some step
   pub whole : Whole n course before mid
+  pub input : TakesBytes (taken_to n course) before.input mid.input

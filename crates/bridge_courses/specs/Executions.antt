@@ -3,18 +3,27 @@ use Rattle.bridge_io.specs.declared.outside.Fail.TheVariants as fail
 use Rattle.bridge_courses.specs.declared.status.Status.TheVariants as status
 use Rattle.bridge_courses.specs.declared.status.Verdict.TheVariants as verdict
 use Rattle.bridge_courses.specs.declared.ending.Ending.TheVariants as ending
-use Rattle.std.specs.Prelude.{◌≡◌, ◌⊎◌, ℕ, ◌<◌, ◌≤◌, IsTrue, List, [], length, codes, Option}
+use Rattle.std.specs.Prelude.{◌≡◌, ◌⊎◌, ℕ, ◌<◌, ◌≤◌, IsTrue, List, [], suc, length, codes, Option}
 use Rattle.bridge_io.specs.{Fault.Rose, Outside.{Changes, Appends, AppendsFront}, InOrder.{put_all, AreBegun}}
 use Rattle.bridge_courses.specs.{declared.status.Status.Status, declared.status.Verdict.Verdict, declared.ending.Ending.Ending}
 use Rattle.bridge_courses.specs.Courses.{Step, Course, World, Makes, Whole, Reaches}
+use Rattle.bridge_courses.specs.Courses.{TakesAtMost, TakesBytes, TakesFewer, taken_at, taken_to}
 
 -- ---- how the work ends
 
--- all steps are done, and the end is the course's
+-- all steps are done, all that is asked for is read, and the end is the course's
 pub record Finishes (course : Course) (end : Verdict) (line : List ℕ) (before after : World) : Type 0 where
   pub whole : Whole (length course.steps) course before after
   pub verdict : end ≡ course.end.verdict
   pub lines : line ≡ course.end.lines
+  pub input : TakesBytes (taken_to (suc (length course.steps)) course) before.input after.input
+
+-- A read failed: of the store, before anything of the input was read for a step or after all that it asks for; or of the input,
+-- before that.
+abbrev pub FailedRead : (taken : ℕ) → (before mid after : World) → Type 0
+FailedRead taken before mid after =
+    (Rose before.read_faults after.read_faults × ((after.input ≡ mid.input) ⊎ TakesBytes taken mid.input after.input))
+    ⊎ (Rose before.input_faults after.input_faults × TakesFewer taken mid.input after.input)
 
 -- a read failed before a step that reads, or before the end
 pub record FailsReading (course : Course) (before after : World) : Type 0 where
@@ -22,7 +31,7 @@ pub record FailsReading (course : Course) (before after : World) : Type 0 where
   pub step : Step
   pub reaches : Reaches course before mid step
   pub reads : IsTrue step.reads
-  pub rose : Rose before.read_faults after.read_faults ⊎ Rose before.input_faults after.input_faults
+  pub rose : FailedRead (taken_at reaches.n course) before mid after
   pub files : after.files ≡ mid.files
   pub made : Makes course 0 0 mid after
   pub report : after.report ≡ mid.report
@@ -36,6 +45,7 @@ pub record FailsWriting (course : Course) (before after : World) : Type 0 where
   pub files : AreBegun step.files mid.files after.files
   pub made : Makes course step.least step.most mid after
   pub report : after.report ≡ mid.report
+  pub input : TakesBytes (taken_at reaches.n course) mid.input after.input
 
 -- Memory ran out in a step or before the end: before its files, when some of its segments may be made, or when they all are
 -- made and its files are begun, or all written.
@@ -43,9 +53,11 @@ pub record WantsMemory (course : Course) (before after : World) : Type 0 where
   pub mid : World
   pub step : Step
   pub reaches : Reaches course before mid step
-  pub left : ((after.files ≡ mid.files) × Makes course 0 step.most mid after)
+  pub left : ((after.files ≡ mid.files) × Makes course 0 step.most mid after
+      × TakesAtMost (taken_at reaches.n course) mid.input after.input)
       ⊎ ((AreBegun step.files mid.files after.files ⊎ Changes (put_all step.files) mid.files after.files)
-      × Makes course step.least step.most mid after)
+      × Makes course step.least step.most mid after
+      × TakesBytes (taken_at reaches.n course) mid.input after.input)
   pub report : after.report ≡ mid.report
 
 -- The sink failed at the lines of a step, whose files are written. A prefix of the lines is reported.
@@ -57,6 +69,7 @@ pub record FailsTelling (course : Course) (before after : World) : Type 0 where
   pub files : Changes (put_all step.files) mid.files after.files
   pub made : Makes course step.least step.most mid after
   pub report : AppendsFront step.lines mid.report after.report
+  pub input : TakesBytes (taken_at reaches.n course) mid.input after.input
 
 abbrev pub words_line : List ℕ
 words_line = codes "words\n"

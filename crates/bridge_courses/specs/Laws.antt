@@ -1,10 +1,11 @@
 -- What each status of a run implies.
 use Rattle.bridge_courses.specs.declared.status.Status.TheVariants as status
 use Rattle.bridge_courses.specs.declared.ending.Ending.TheVariants as ending
-use Rattle.std.specs.Prelude.{◌≡◌, ◌≢◌, ◌⊎◌, ℕ, suc, ◌+◌, ◌≤◌, IsTrue, List, [], ◌∷◌, ◌++◌, take, length, slice_get, sum_by, All, Option}
-use Rattle.std.specs.Prelude.{Some}
+use Rattle.std.specs.Prelude.{◌≡◌, ◌≢◌, ◌⊎◌, ℕ, suc, ◌+◌, ◌<◌, ◌≤◌, IsTrue, List, [], ◌∷◌, ◌++◌, take, length, slice_get, sum_by, All}
+use Rattle.std.specs.Prelude.{Option, Some}
 use Rattle.bridge_io.specs.{Fault.Rose, Outside.{Files, Changes, Appends, AppendsFront}, InOrder.{put_all, AreBegun}}
 use Rattle.bridge_courses.specs.{declared.status.Status.Status, declared.status.Verdict.Verdict, Courses.{Step, Course, World, files_of}}
+use Rattle.bridge_courses.specs.Courses.{TakesBytes, taken_at, taken_to}
 use Rattle.bridge_courses.specs.{Courses.{files_to, lines_to, report_of, last_step, Reaches}, Executions.{IsExecution, status_by, line_of}}
 
 -- the whole course is done: its files and its report are written
@@ -90,6 +91,36 @@ ExecutionLeavesSteps =
 abbrev pub ReadFaultLeavesSteps : Type 0
 ReadFaultLeavesSteps = (course : Course) (before after : World) → IsExecution course status.ReadFault before after →
     (n : ℕ) × Changes (put_all (files_to n course)) before.files after.files
+
+-- ---- standard input
+
+-- The files of the first n steps are written, and some or all of those of the next one. Of the input all bytes are read that those n
+-- ask for, and at most as many more as the next one does.
+pub record ReadsSteps (course : Course) (before after : World) : Type 0 where
+  pub leaves : LeavesSteps course before.files after.files
+  pub some : ℕ
+  pub within : some ≤ taken_at leaves.n course
+  pub input : TakesBytes (taken_to leaves.n course + some) before.input after.input
+
+-- however a run ends, it reads no further than for the step after those that are done
+abbrev pub ExecutionReadsSteps : Type 0
+ExecutionReadsSteps =
+    (course : Course) (end : Status) (before after : World) → IsExecution course end before after → ReadsSteps course before after
+
+-- a run that ends with a verdict read what its steps and its end ask for
+abbrev pub VerdictReadsAll : Type 0
+VerdictReadsAll = (course : Course) (v : Verdict) (before after : World) → IsExecution course (status_by v) before after →
+    TakesBytes (taken_to (suc (length course.steps)) course) before.input after.input
+
+-- After a read error the files of some first steps are written, and no others. Where no read of a file failed, fewer bytes of the input
+-- are read than the next step asks for, beyond those of the steps that are done.
+abbrev pub ReadFaultReadsFewer : Type 0
+ReadFaultReadsFewer = (course : Course) (before after : World) → IsExecution course status.ReadFault before after →
+    (n : ℕ) × Changes (put_all (files_to n course)) before.files after.files
+    × (Rose before.read_faults after.read_faults
+    ⊎ ((some : ℕ) × (some < taken_at n course) × TakesBytes (taken_to n course + some) before.input after.input))
+
+-- ---- segments
 
 -- the number of segments made: all those of some first steps, and some of the next one
 pub record MadeSteps (course : Course) (before after : ℕ) : Type 0 where

@@ -9,11 +9,19 @@ use Rattle.bridge_courses.specs.Executions.{NeverFalls}
 
 -- a course with one more step first
 abbrev pub with_step : Step → Course → Course
-with_step step course = record { steps = step ∷ course.steps; end = course.end; counts = course.counts }
+with_step step course = record { steps = step ∷ course.steps; end = course.end; counts = course.counts; taken = course.taken }
 
 -- a counting course of only an end
 abbrev pub only_end : End → Course
-only_end end = record { steps = []; end = end; counts = true }
+only_end end = record { steps = []; end = end; counts = true; taken = [] }
+
+-- the same course, that asks for so many bytes of the input
+abbrev pub taking : (taken : List ℕ) → Course → Course
+taking taken course = record { steps = course.steps; end = course.end; counts = course.counts; taken = taken }
+
+-- a course with one more step first, which asks for some bytes
+abbrev pub with_reading : (count : ℕ) → Step → Course → Course
+with_reading count step course = taking (count ∷ course.taken) (with_step step course)
 
 -- the first step of a course, or its end
 abbrev pub first_in : List Step → End → Step

@@ -2,6 +2,7 @@
 ghost use Rattle.bridge_courses.specs.Laws.{DoneIsWhole, VerdictKeepsSteps, ReadFaultKeepsFiles, ReadFaultRose, WriteFaultRose, IsComplete};
 ghost use Rattle.bridge_courses.specs.Laws.{OthersStay, ExecutionLeavesSteps, ReadFaultLeavesSteps, ExecutionMakesSteps, VerdictTellsSteps};
 ghost use Rattle.bridge_courses.specs.Laws.{ReadFaultTellsSteps, WriteFaultTellsSteps, ExecutionTellsFronts};
+ghost use Rattle.bridge_courses.specs.Laws.{ExecutionReadsSteps, ReadFaultReadsFewer, VerdictReadsAll};
 
 /// A successful run has written the files of its course, and its whole report.
 pub fn done_is_whole()
@@ -40,6 +41,14 @@ pub fn other_files_stay()
 pub fn an_execution_leaves_its_steps()
     ensures steps { ExecutionLeavesSteps }
     ensures read_fault { ReadFaultLeavesSteps }
+{}
+
+/// However a run ends, it read of standard input what the steps ask for that are done, and at most what the next one asks for; after a
+/// read error, where no read of a file failed, less than that; and all that is asked for where it ends with a verdict.
+pub fn an_execution_reads_no_further()
+    ensures steps { ExecutionReadsSteps }
+    ensures verdict { VerdictReadsAll }
+    ensures read_fault { ReadFaultReadsFewer }
 {}
 
 /// However a run of a counting course ends, it made the segments of some first steps, and some of the next one.

@@ -10,7 +10,7 @@ pub use ending::{Ending, tell};
 pub use laws::{
     a_calm_execution_is_complete, a_fault_has_a_cause, a_read_fault_keeps_the_files,
     a_verdict_keeps_the_steps, an_execution_leaves_its_steps,
-    an_execution_makes_the_segments_of_its_steps, an_execution_tells_its_steps, done_is_whole,
-    other_files_stay,
+    an_execution_makes_the_segments_of_its_steps, an_execution_reads_no_further,
+    an_execution_tells_its_steps, done_is_whole, other_files_stay,
 };
 pub use status::{Status, Verdict};

@@ -17,6 +17,7 @@ noted source store sink input before after report report' made adds = record {
   rest = ap₂ (λ files writes. record {
     files = files;
     report = sink.written report';
+    input = source.remaining input;
     input_faults = source.faults input;
     read_faults = store.read_faults after;
     write_faults = writes;

@@ -62,7 +62,8 @@ abbrev pub words_run : List (List ℕ) → List (List ℕ)
 words_run words = unwrap_or (plain_words words) words
 
 -- without `--explain`, or with the words that are left without it; or memory ran out for these
-abbrev pub IsRunOf : Option (List (List ℕ)) → (words : List (List ℕ)) → Option Files → Option (List ℕ) → Status → (before after : World) → Type 0
+abbrev pub IsRunOf : Option (List (List ℕ)) → (words : List (List ℕ)) → Option Files → Option (List ℕ) → Status → (before after : World)
+    → Type 0
 IsRunOf None words files input end before after = IsPlainRun words files input end before after
 IsRunOf (Some rest) words files input end before after = IsRunWithNotes rest files input end before after
     ⊎ Tells ending.Memory end before after

@@ -1,9 +1,12 @@
 -- A buffer that is filled from its front.
-use Rattle.std.proofs.Common.{◌≡◌, ◌≤◌, ◌+◌, ℕ, List, [], ◌++◌, length, take, Option, Some, None, refl, sym, ap, ◌∙◌, subst, arith}
+use Rattle.std.proofs.Common.{◌≡◌, ◌≤◌, ◌+◌, ◌<◌, ℕ, List, [], ◌++◌, length, take, drop, Option, Some, None, refl, sym, ap, ◌∙◌, subst}
+use Rattle.std.proofs.Common.{arith}
 use Rattle.std.proofs.{Common.{append_assoc, length-append}, lemmas.List.{append-nil, length-take, length-take-le, take_all}}
-use Rattle.std.proofs.{lemmas.List.take-append-le, Math.Seq.{take-append-add, take-append_seam}}
+use Rattle.std.proofs.{lemmas.List.take-append-le, Math.Seq.{drop-append_seam, take-append-add, take-append_seam}}
 use Rattle.std.specs.Io.KnownBytes.{prepend_known, IsAtEnd}
-use Rattle.bridge_jobs.specs.Inputs.{TakesFront}
+use Rattle.bridge_io.specs.declared.outside.Fail.{Fail}
+use Rattle.bridge_jobs.specs.{FrameFaults.fault_of, Frames.LeavesAt, Inputs.TakesFront}
+use Rattle.bridge_jobs.proofs.Left.{fails_with}
 
 -- so many bytes at a buffer's front were read
 abbrev pub IsFilled : ℕ → List ℕ → Option (List ℕ) → Option (List ℕ) → Type 0
@@ -58,3 +61,11 @@ filled_end filled buf first now so_far end = λ bytes told.
     let whole : bytes ≡ take filled buf = s.2 ∙ ap (λ x. take filled buf ++ x) empty ∙ append-nil (take filled buf) in
     let short : length (take filled buf) ≤ length buf = omega (arith, length-take filled buf) in
     (sym (ap (take (length buf)) whole ∙ take_all _ (take filled buf) short), s.0, s.1, s.2)
+
+-- a buffer that isn't filled, since a read failed
+pub fill_fails : (filled size : ℕ) (buf : List ℕ) (first now after : Option (List ℕ)) (fail : Fail) → IsFilled filled buf first now
+    → filled ≤ length buf → filled < size → after ≡ now → (bytes : List ℕ) → first ≡ Some bytes → LeavesAt (fault_of fail) size bytes after
+fill_fails filled size buf first now after fail so_far within less same = λ bytes told.
+    let s = so_far bytes told in let front = take filled buf in
+    fails_with fail filled size bytes after less (same ∙ s.1 ∙ ap Some (sym (drop-append_seam front s.0)
+    ∙ ap (λ n. drop n (front ++ s.0)) (length-take-le filled buf within) ∙ ap (drop filled) (sym s.2)))

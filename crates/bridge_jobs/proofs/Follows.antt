@@ -4,7 +4,8 @@ use Rattle.std.proofs.Common.{None, Result, Ok, Err, nat_le, count_by, if◌then
 use Rattle.std.proofs.{Common.{add_assoc, length-append}, lemmas.List.take-append-drop, lemmas.List.Sums.sum_by-append}
 use Rattle.std.proofs.Math.Seq.{take-append_seam}
 use Rattle.bridge_io.specs.{Places.place_of, declared.place.Place.Place}
-use Rattle.bridge_jobs.specs.Frames.{Framed, behind, body_of, by_next, counted, frame_by_line, framed_if, framed_as, frames_from}
+use Rattle.bridge_jobs.specs.Frames.{Framed, behind, body_of, by_next, counted, frame_by_line, frame_size, framed_if, framed_as}
+use Rattle.bridge_jobs.specs.Frames.{frames_from}
 use Rattle.bridge_jobs.specs.Frames.{frames_within, header_at, line_within, most_header, next_line, piece_of, most_frames, next_frame}
 use Rattle.bridge_jobs.specs.{Frames.{some_of, stream_by, with_body, with_frame}, Headers.{body_length, header_of}, Laws.FramesFollow}
 use Rattle.bridge_jobs.specs.{Laws.PlacesAreOfTheStream, declared.frame.FramePos.FramePos, declared.frame.FrameFault.FrameFault}
@@ -120,10 +121,10 @@ roomy (suc most) (suc more) at bytes low high = go (next_frame at bytes) refl
     go : (r : Result (Option Framed) FrameFault) → next_frame at bytes ≡ r
         → ((framed : Framed) → length framed.rest < length bytes → frames_within most framed.after framed.rest
         ≡ frames_within more framed.after framed.rest)
-        → stream_by (λ framed. frames_within most framed.after framed.rest) r
-        ≡ stream_by (λ framed. frames_within more framed.after framed.rest) r
+        → stream_by (frame_size at bytes) (λ framed. frames_within most framed.after framed.rest) r
+        ≡ stream_by (frame_size at bytes) (λ framed. frames_within more framed.after framed.rest) r
     go (Ok None) e next = refl
-    go (Ok (Some framed)) e next = ap (with_frame framed.frame) (next framed (shorter at bytes framed e))
+    go (Ok (Some framed)) e next = ap (with_frame framed.frame (frame_size at bytes)) (next framed (shorter at bytes framed e))
     go (Err _) e next = refl
 
 pub frames_follow : FramesFollow
@@ -131,12 +132,13 @@ unfolding frames_within
 frames_follow = λ at bytes. go at bytes (next_frame at bytes) refl
   where
     go : (at : FramePos) (bytes : List ℕ) (r : Result (Option Framed) FrameFault) → next_frame at bytes ≡ r
-        → stream_by (λ framed. frames_within (length bytes) framed.after framed.rest) r
-        ≡ stream_by (λ framed. frames_from framed.after framed.rest) r
+        → stream_by (frame_size at bytes) (λ framed. frames_within (length bytes) framed.after framed.rest) r
+        ≡ stream_by (frame_size at bytes) (λ framed. frames_from framed.after framed.rest) r
     go at bytes (Ok None) e = refl
     go at bytes (Ok (Some framed)) e =
         let less : length framed.rest < length bytes = shorter at bytes framed e in
-        ap (with_frame framed.frame) (roomy (length bytes) (suc (length framed.rest)) framed.after framed.rest less (omega arith))
+        ap (with_frame framed.frame (frame_size at bytes))
+        (roomy (length bytes) (suc (length framed.rest)) framed.after framed.rest less (omega arith))
     go at bytes (Err _) e = refl
 
 -- the place behind more of the same bytes

@@ -9,3 +9,5 @@ pub mod Taken
 pub mod LengthsInTurn
 pub mod RoundsRead
 pub mod RoundsInTurn
+pub mod Left
+mod Sizes

@@ -4,7 +4,8 @@ use Rattle.std.proofs.Common.{None, Result, Ok, Err, nat_le, if◌then◌else◌
 use Rattle.bridge_io.specs.declared.place.Place.{Place}
 use Rattle.bridge_jobs.specs.{Frames.{behind, by_next, header_at, line_within, most_frames, next_line, piece_of, some_of}, Rounds.Bodies}
 use Rattle.bridge_jobs.specs.Rounds.{Rounded, RoundStream, after_bodies, and_bodies, bodies_of, counted, header_of, most_header, next_round}
-use Rattle.bridge_jobs.specs.{Rounds.{round_by_line, rounded_as, rounded_if, rounds_by, rounds_from, rounds_within}, Laws.RoundsFollow}
+use Rattle.bridge_jobs.specs.Rounds.{round_by_line, round_size, rounded_as, rounded_if, rounds_by, rounds_from, rounds_within}
+use Rattle.bridge_jobs.specs.Laws.{RoundsFollow}
 use Rattle.bridge_jobs.specs.{declared.lengths.RoundHeader.RoundHeader, declared.frame.FramePos.FramePos}
 use Rattle.bridge_jobs.specs.{declared.frame.FrameFault.FrameFault, declared.frame.FrameFault.TheVariants.{Cut, TooMany}}
 use Rattle.bridge_jobs.proofs.Follows.{line-some}
@@ -106,11 +107,12 @@ roomy (suc most) (suc more) tracks at bytes low high =
     go : (r : Result (Option Rounded) FrameFault) → next_round tracks at bytes ≡ r
         → ((rounded : Rounded) → length rounded.rest < length bytes
         → rounds_within most tracks rounded.after rounded.rest ≡ rounds_within more tracks rounded.after rounded.rest)
-        → rounds_by (λ rounded. rounds_within most tracks rounded.after rounded.rest) r
-        ≡ rounds_by (λ rounded. rounds_within more tracks rounded.after rounded.rest) r
+        → rounds_by (round_size tracks at bytes) (λ rounded. rounds_within most tracks rounded.after rounded.rest) r
+        ≡ rounds_by (round_size tracks at bytes) (λ rounded. rounds_within more tracks rounded.after rounded.rest) r
     go (Ok None) e next = refl
     go (Ok (Some rounded)) e next =
-        ap (λ (s : RoundStream). (rounded.round ∷ s.0, s.1)) (next rounded (shorter tracks at bytes rounded e))
+        ap (λ (s : RoundStream). (rounded.round ∷ s.0, s.1, round_size tracks at bytes ∷ s.2))
+        (next rounded (shorter tracks at bytes rounded e))
     go (Err _) e next = refl
 
 pub rounds_follow : RoundsFollow
@@ -118,11 +120,11 @@ unfolding rounds_within
 rounds_follow = λ tracks at bytes. go tracks at bytes (next_round tracks at bytes) refl
   where
     go : (tracks : ℕ) (at : FramePos) (bytes : List ℕ) (r : Result (Option Rounded) FrameFault) → next_round tracks at bytes ≡ r
-        → rounds_by (λ rounded. rounds_within (length bytes) tracks rounded.after rounded.rest) r
-        ≡ rounds_by (λ rounded. rounds_from tracks rounded.after rounded.rest) r
+        → rounds_by (round_size tracks at bytes) (λ rounded. rounds_within (length bytes) tracks rounded.after rounded.rest) r
+        ≡ rounds_by (round_size tracks at bytes) (λ rounded. rounds_from tracks rounded.after rounded.rest) r
     go tracks at bytes (Ok None) e = refl
     go tracks at bytes (Ok (Some rounded)) e =
         let less : length rounded.rest < length bytes = shorter tracks at bytes rounded e in
-        ap (λ (s : RoundStream). (rounded.round ∷ s.0, s.1))
+        ap (λ (s : RoundStream). (rounded.round ∷ s.0, s.1, round_size tracks at bytes ∷ s.2))
         (roomy (length bytes) (suc (length rounded.rest)) tracks rounded.after rounded.rest less (omega arith))
     go tracks at bytes (Err _) e = refl

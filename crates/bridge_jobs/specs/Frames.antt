@@ -127,25 +127,55 @@ by_next read (Err e) = Err e
 unfoldable pub next_frame : FramePos → List ℕ → Result (Option Framed) FrameFault
 next_frame at bytes = by_next (frame_by_line at) (next_line most_header at bytes)
 
+-- ---- how much is read
+
+-- how many bytes are asked for a line, up to and with its LF: at most `most`, and one more than there are where these end before it
+unfoldable pub line_size : (most : ℕ) → List ℕ → ℕ
+line_size zero bytes = 0
+line_size (suc most) [] = 1
+line_size (suc most) (b ∷ bytes) = if b == 10 then 1 else suc (line_size most bytes)
+
+-- how many bytes a header announces, and none where it is rejected
+abbrev pub announced : {H : Type 0} → (length : H → ℕ) → Result H FrameFault → ℕ
+announced length (Ok header) = length header
+announced length (Err e) = 0
+
+-- of the next line, where there is one
+abbrev pub of_next : (List ℕ → ℕ) → Result (Option (List ℕ) × List ℕ) FrameFault → ℕ
+of_next size (Ok (Some line, rest)) = size line
+of_next size (Ok (None, rest)) = 0
+of_next size (Err e) = 0
+
+-- how many bytes are asked for after a frame's line
+unfoldable pub body_size : FramePos → (line : List ℕ) → ℕ
+body_size at line = announced body_length (header_at most_header header_of at.place line)
+
+-- How many bytes are asked for the next frame: its line and its body, or only the line where that is rejected; at the end of the
+-- stream one.
+unfoldable pub frame_size : FramePos → List ℕ → ℕ
+frame_size at bytes = line_size most_header bytes + of_next (body_size at) (next_line most_header at bytes)
+
 -- ---- the whole stream
 
--- the frames of a stream, and why it ends where it isn't whole
+-- the frames of a stream, why it ends where it isn't whole, and how many bytes are asked for each frame, and at last for its end
 pub record Stream : Type 0 where
   pub frames : List Frame
   pub fault : Option FrameFault
+  pub taken : List ℕ
 
-abbrev pub with_frame : Frame → Stream → Stream
-with_frame frame stream = record stream { frames = frame ∷ stream.frames }
+abbrev pub with_frame : Frame → (size : ℕ) → Stream → Stream
+with_frame frame size stream = record stream { frames = frame ∷ stream.frames; taken = size ∷ stream.taken }
 
-abbrev pub stream_by : (Framed → Stream) → Result (Option Framed) FrameFault → Stream
-stream_by more (Ok None) = record { frames = []; fault = None }
-stream_by more (Ok (Some framed)) = with_frame framed.frame (more framed)
-stream_by more (Err e) = record { frames = []; fault = Some e }
+abbrev pub stream_by : (size : ℕ) → (Framed → Stream) → Result (Option Framed) FrameFault → Stream
+stream_by size more (Ok None) = record { frames = []; fault = None; taken = size ∷ [] }
+stream_by size more (Ok (Some framed)) = with_frame framed.frame size (more framed)
+stream_by size more (Err e) = record { frames = []; fault = Some e; taken = size ∷ [] }
 
 -- the frames of bytes that begin at a position; each takes one of a number of steps
 unfoldable pub frames_within : ℕ → FramePos → List ℕ → Stream
-frames_within zero at bytes = record { frames = []; fault = None }
-frames_within (suc most) at bytes = stream_by (λ framed. frames_within most framed.after framed.rest) (next_frame at bytes)
+frames_within zero at bytes = record { frames = []; fault = None; taken = [] }
+frames_within (suc most) at bytes = stream_by (frame_size at bytes) (λ framed. frames_within most framed.after framed.rest)
+    (next_frame at bytes)
 
 abbrev pub frames_from : FramePos → List ℕ → Stream
 frames_from at bytes = frames_within (suc (length bytes)) at bytes
@@ -182,6 +212,24 @@ ReadsFrom value result before after meaning =
     (bytes : List ℕ) → before ≡ Some bytes → MatchResult result
     (λ x. (rest : List ℕ) × (after ≡ Some rest) × (meaning bytes ≡ Ok (value x rest)))
     (λ e. IfSome (refusal e) (λ f. meaning bytes ≡ Err f))
+
+-- What is unread where a call fails that asks for `size` of some bytes: what follows these where they are rejected; after a failed read
+-- fewer were taken, and at most so many where memory ran out.
+abbrev pub LeavesAt : FrameFault → (size : ℕ) → (bytes : List ℕ) → (after : Option (List ℕ)) → Type 0
+LeavesAt fault.Fault size bytes after = (some : ℕ) × (some < size) × (after ≡ Some (drop some bytes))
+LeavesAt fault.Memory size bytes after = (some : ℕ) × (some ≤ size) × (after ≡ Some (drop some bytes))
+LeavesAt (fault.Header place) size bytes after = after ≡ Some (drop size bytes)
+LeavesAt (fault.Cut place) size bytes after = after ≡ Some (drop size bytes)
+LeavesAt (fault.TooMany place) size bytes after = after ≡ Some (drop size bytes)
+
+-- The call leaves what follows `size` bytes, or all read where there are fewer; or what a failed one leaves.
+abbrev pub Leaves : {X : Type 0} → Result X FrameFault → (size : ℕ) → (bytes : List ℕ) → (after : Option (List ℕ)) → Type 0
+Leaves (Ok x) size bytes after = after ≡ Some (drop size bytes)
+Leaves (Err e) size bytes after = LeavesAt e size bytes after
+
+-- the same of a source's unread bytes, of which it asks for so many
+abbrev pub LeavesBehind : {X : Type 0} → Result X FrameFault → (size : List ℕ → ℕ) → (before after : Option (List ℕ)) → Type 0
+LeavesBehind result size before after = (bytes : List ℕ) → before ≡ Some bytes → Leaves result (size bytes) bytes after
 
 -- no frame was read
 abbrev pub IsNoFrame : {X : Type 0} → Result (Option X) FrameFault → Type 0

@@ -1,9 +1,10 @@
 -- Snapshots: the playlists of a live presentation, all read at one time.
 use Rattle.std.specs.Prelude.{ℕ, ℤ, zero, suc, ◌-◌, ◌+◌, nat_le, codes, bytes_eq, List, [], ◌∷◌, ◌++◌, length, if◌then◌else◌, Option, Some}
-use Rattle.std.specs.Prelude.{None, option_map, Result, Ok, Err}
+use Rattle.std.specs.Prelude.{None, option_map, sum, Result, Ok, Err}
 use Rattle.bridge_io.specs.declared.place.Place.{Place}
 use Rattle.bridge_jobs.specs.{Headers.{cut_at_space, length_of}, Jobs.{◌>>=◌, instant_in}, Frames.{behind, header_at, piece_of, next_line}}
-use Rattle.bridge_jobs.specs.{Frames.by_next, declared.lengths.RoundHeader.RoundHeader, declared.round.Round.Round}
+use Rattle.bridge_jobs.specs.{Frames.{announced, by_next, line_size, of_next}, declared.lengths.RoundHeader.RoundHeader}
+use Rattle.bridge_jobs.specs.declared.round.Round.{Round}
 use Rattle.bridge_jobs.specs.{declared.frame.FramePos.FramePos, declared.frame.FrameFault.FrameFault}
 
 -- the most bytes that a header line has, with its LF
@@ -111,21 +112,32 @@ round_by_line tracks at line bytes = rounded_if at line bytes (header_at most_he
 unfoldable pub next_round : (tracks : ℕ) → FramePos → List ℕ → Result (Option Rounded) FrameFault
 next_round tracks at bytes = by_next (round_by_line tracks at) (next_line most_header at bytes)
 
+-- how many bytes are asked for after a snapshot's line
+unfoldable pub bodies_size : (tracks : ℕ) → FramePos → (line : List ℕ) → ℕ
+bodies_size tracks at line = announced (λ (header : RoundHeader). sum header.lengths)
+    (header_at most_header (header_of tracks) at.place line)
+
+-- How many bytes are asked for the next snapshot: its line and its bodies, or only the line where that is rejected; at the end of the
+-- stream one.
+unfoldable pub round_size : (tracks : ℕ) → FramePos → List ℕ → ℕ
+round_size tracks at bytes = line_size most_header bytes + of_next (bodies_size tracks at) (next_line most_header at bytes)
+
 -- ---- the whole stream
 
--- the snapshots of a stream, and why it ends where it isn't whole
+-- the snapshots of a stream, why it ends where it isn't whole, and how many bytes are asked for each snapshot, and at last for its end
 abbrev pub RoundStream : Type 0
-RoundStream = List Round × Option FrameFault
+RoundStream = List Round × Option FrameFault × List ℕ
 
-abbrev pub rounds_by : (Rounded → RoundStream) → Result (Option Rounded) FrameFault → RoundStream
-rounds_by more (Ok None) = ([], None)
-rounds_by more (Ok (Some rounded)) = (rounded.round ∷ (more rounded).0, (more rounded).1)
-rounds_by more (Err e) = ([], Some e)
+abbrev pub rounds_by : (size : ℕ) → (Rounded → RoundStream) → Result (Option Rounded) FrameFault → RoundStream
+rounds_by size more (Ok None) = ([], None, size ∷ [])
+rounds_by size more (Ok (Some rounded)) = (rounded.round ∷ (more rounded).0, (more rounded).1, size ∷ (more rounded).2)
+rounds_by size more (Err e) = ([], Some e, size ∷ [])
 
 -- the snapshots of bytes that begin at a position; each takes one of a number of steps
 unfoldable pub rounds_within : ℕ → (tracks : ℕ) → FramePos → List ℕ → RoundStream
-rounds_within zero tracks at bytes = ([], None)
-rounds_within (suc most) tracks at bytes = rounds_by (λ rounded. rounds_within most tracks rounded.after rounded.rest)
+rounds_within zero tracks at bytes = ([], None, [])
+rounds_within (suc most) tracks at bytes = rounds_by (round_size tracks at bytes)
+    (λ rounded. rounds_within most tracks rounded.after rounded.rest)
     (next_round tracks at bytes)
 
 abbrev pub rounds_from : (tracks : ℕ) → FramePos → List ℕ → RoundStream

@@ -5,6 +5,7 @@ ghost use Rattle.bridge_io.specs.Fault.{HasCause};
 ghost use Rattle.bridge_jobs.specs.declared.frame.FrameFault.TheVariants.{Fault};
 ghost use Rattle.bridge_jobs.specs.Frames.{IsFramePos, IsNoFrame, IsNear, IsBehind, ReadsFrom, framed_as, next_frame, frame_by_line};
 ghost use Rattle.bridge_jobs.specs.Frames.{body_of, header_at, next_line, piece_of, behind, now_of, with_body, most_frames, most_header};
+ghost use Rattle.bridge_jobs.specs.Frames.{LeavesBehind, body_size, frame_size, line_size};
 ghost use Rattle.bridge_jobs.specs.Headers.{body_length, header_of, instant_at};
 ghost use Rattle.iso_time.specs.Instant.{IsReadable};
 
@@ -119,7 +120,7 @@ impl From<NoMemory> for FrameFault {
 /// frame's end. The position doesn't change where no frame is read.
 ///
 /// A frame is a header line, at most 64 bytes with its LF, and a body of the length in the header, at most 8,388,608
-/// bytes. A stream has at most 10,000,000 frames.
+/// bytes. A stream has at most 10,000,000 frames. Nothing behind a frame is read, and a failed read comes before the end of one.
 pub fn read_frame<I: Source>(
     alloc: Global,
     input: &mut I,
@@ -128,6 +129,7 @@ pub fn read_frame<I: Source>(
     requires { IsFramePos at.old }
     ensures frame { ReadsFrom (λ frame rest. option_map (λ f. framed_as f at.new rest) frame) result (I.remaining input.old)
         (I.remaining input.new) (next_frame at.old) }
+    ensures left { LeavesBehind result (frame_size at.old) (I.remaining input.old) (I.remaining input.new) }
     ensures stays { IsNoFrame result → at.new ≡ at.old }
     ensures kept { IsFramePos at.new }
     ensures counts { IfOk result (λ frame. IfSome frame (λ f. at.new.frames ≡ at.old.frames + 1)) }
@@ -154,6 +156,7 @@ pub(crate) fn next_line<I: Source>(
 ) -> Result<Option<Bytes>, FrameFault>
     requires { 0 < most }
     ensures line { ReadsFrom (λ line rest. (line, rest)) result (I.remaining input.old) (I.remaining input.new) (next_line most at) }
+    ensures left { LeavesBehind result (line_size most) (I.remaining input.old) (I.remaining input.new) }
     ensures room { IfOk result (λ line. IfSome line (λ l. length l ≤ most)) }
     ensures more { IfOk result (λ line. IfSome line (λ _. at.frames ≢ most_frames)) }
     ensures cause { HasCause Fault (I.faults input.old) (I.faults input.new) result }
@@ -180,6 +183,7 @@ fn read_framed<I: Source>(
     requires line { length line.now ≤ most_header }
     ensures frame { ReadsFrom (λ x rest. framed_as x.0 x.1 rest) result (I.remaining input.old) (I.remaining input.new)
         (frame_by_line at line.now) }
+    ensures left { LeavesBehind result (λ bytes. body_size at line.now) (I.remaining input.old) (I.remaining input.new) }
     ensures kept { IfOk result (λ x. IsFramePos x.1) }
     ensures counts { IfOk result (λ x. x.1.frames ≡ at.frames + 1) }
     ensures readable { IfOk result (λ x. IsReadable (now_of x.0)) }
@@ -219,6 +223,7 @@ fn read_body<I: Source>(
     requires small { body_length header.now ≤ 8388608 }
     ensures frame { ReadsFrom (λ x rest. (x.0, x.1, rest)) result (I.remaining input.old) (I.remaining input.new)
         (body_of place header.now) }
+    ensures left { LeavesBehind result (λ bytes. body_length header.now) (I.remaining input.old) (I.remaining input.new) }
     ensures place { IfOk result (λ x. IsBehind (body_length header.now) place x.1) }
     ensures now { IfOk result (λ x. now_of x.0 ≡ instant_at header.now) }
     ensures cause { HasCause Fault (I.faults input.old) (I.faults input.new) result }
@@ -238,6 +243,7 @@ pub(crate) fn read_piece<I: Source>(
     requires line { place.line < 2 ^ 63 }
     requires small { length ≤ 67108864 }
     ensures piece { ReadsFrom (λ x rest. (x.0, x.1, rest)) result (I.remaining input.old) (I.remaining input.new) (piece_of place length) }
+    ensures left { LeavesBehind result (λ bytes. length) (I.remaining input.old) (I.remaining input.new) }
     ensures place { IfOk result (λ x. IsBehind length place x.1) }
     ensures cause { HasCause Fault (I.faults input.old) (I.faults input.new) result }
 {

@@ -1,6 +1,7 @@
 //! Laws of the definitions, as contracts of functions that do nothing.
 ghost use Rattle.bridge_jobs.specs.CommandLines.{CommandLinesAreRead};
-ghost use Rattle.bridge_jobs.specs.Laws.{FoldersHoldTheirFiles, FramesFollow, PlacesAreOfTheStream, RoundsFollow};
+ghost use Rattle.bridge_jobs.specs.Laws.{FoldersHoldTheirFiles, FramesFollow, PlacesAreOfTheStream, RoundsFollow, SizesAreOfFrames};
+ghost use Rattle.bridge_jobs.specs.Laws.{FramesAreLeft, RoundsAreLeft, SizesAreOfRounds};
 
 /// In each directory that a command accepts, each file that is written has a valid name: `t<k>.m3u8` with k up to
 /// 199, `master.m3u8`, `manifest.mpd`, `source.mpd` and `live.mpd`.
@@ -17,6 +18,18 @@ pub fn frames_follow()
 pub fn rounds_follow()
     ensures { RoundsFollow }
 {}
+
+/// An update frame, or a snapshot, that is read whole has all bytes that are asked for it, and what follows it follows these. So the bytes
+/// of the first ones are all there, and what is left when they are read is the stream of the others.
+pub fn sizes_are_of_frames()
+    ensures frames { SizesAreOfFrames }
+    ensures rounds { SizesAreOfRounds }
+    ensures frames_left { FramesAreLeft }
+    ensures rounds_left { RoundsAreLeft }
+{
+    frames_follow();
+    rounds_follow();
+}
 
 /// The positions of frames are those of their bytes in the whole stream.
 pub fn places_are_of_the_stream()

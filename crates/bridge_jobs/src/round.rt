@@ -5,8 +5,10 @@ ghost use Rattle.iso_time.specs.Instant.{IsReadable};
 ghost use Rattle.bridge_io.specs.Answer.{Gives};
 ghost use Rattle.bridge_io.specs.Fault.{HasCause};
 ghost use Rattle.bridge_jobs.specs.declared.frame.FrameFault.TheVariants.{Fault};
-ghost use Rattle.bridge_jobs.specs.Frames.{IsBehind, IsFramePos, IsNear, IsNoFrame, ReadsFrom, header_at, most_frames, refusal};
-ghost use Rattle.bridge_jobs.specs.Rounds.{bodies_of, header_of, most_bodies, most_header, next_round, round_by_line, rounded_as};
+ghost use Rattle.bridge_jobs.specs.Frames.{IsBehind, IsFramePos, IsNear, IsNoFrame, LeavesBehind, ReadsFrom, header_at, most_frames};
+ghost use Rattle.bridge_jobs.specs.Frames.{refusal};
+ghost use Rattle.bridge_jobs.specs.Rounds.{bodies_of, bodies_size, header_of, most_bodies, most_header, next_round, round_by_line};
+ghost use Rattle.bridge_jobs.specs.Rounds.{round_size, rounded_as};
 
 use crate::frame::{FrameFault, FramePos, behind, next_line, read_piece};
 use crate::lengths::RoundHeader;
@@ -34,7 +36,7 @@ pub struct Round {
 ///
 /// A snapshot is a header line, at most 2,048 bytes with its LF, and a body for each track, of the lengths in the header: at
 /// most 8,388,608 bytes each, and 67,108,864 together. A stream has at most 10,000,000 snapshots. Errors are those of update
-/// frames.
+/// frames. Nothing behind a snapshot is read, and a failed read comes before the end of one.
 pub fn read_round<I: Source>(
     alloc: Global,
     input: &mut I,
@@ -44,6 +46,7 @@ pub fn read_round<I: Source>(
     requires { IsFramePos at.old }
     ensures round { ReadsFrom (λ round rest. option_map (λ r. rounded_as r at.new rest) round) result (I.remaining input.old)
         (I.remaining input.new) (next_round tracks at.old) }
+    ensures left { LeavesBehind result (round_size tracks at.old) (I.remaining input.old) (I.remaining input.new) }
     ensures stays { IsNoFrame result → at.new ≡ at.old }
     ensures kept { IsFramePos at.new }
     ensures counts { IfOk result (λ round. IfSome round (λ r. at.new.frames ≡ at.old.frames + 1)) }
@@ -75,6 +78,7 @@ fn read_rounded<I: Source>(
     requires line { length line.now ≤ most_header }
     ensures round { ReadsFrom (λ x rest. rounded_as x.0 x.1 rest) result (I.remaining input.old) (I.remaining input.new)
         (round_by_line tracks at line.now) }
+    ensures left { LeavesBehind result (λ bytes. bodies_size tracks at line.now) (I.remaining input.old) (I.remaining input.new) }
     ensures kept { IfOk result (λ x. IsFramePos x.1) }
     ensures counts { IfOk result (λ x. x.1.frames ≡ at.frames + 1) }
     ensures readable { IfOk result (λ x. IsReadable x.0.now) }
@@ -122,6 +126,7 @@ fn read_bodies<I: Source>(
     requires small { sum lengths.now ≤ most_bodies }
     ensures bodies { ReadsFrom (λ x rest. (x.0, x.1, rest)) result (I.remaining input.old) (I.remaining input.new)
         (bodies_of place lengths.now) }
+    ensures left { LeavesBehind result (λ bytes. sum lengths.now) (I.remaining input.old) (I.remaining input.new) }
     ensures place { IfOk result (λ x. IsBehind (sum lengths.now) place x.1) }
     ensures count { IfOk result (λ x. length x.0 ≡ length lengths.now) }
     ensures cause { HasCause Fault (I.faults input.old) (I.faults input.new) result }

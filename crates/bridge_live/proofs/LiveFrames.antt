@@ -4,12 +4,14 @@ use Rattle.bridge_jobs.specs.declared.frame.FrameFault.TheVariants as fault
 use Rattle.presentation.specs.declared.fault.PresentationFault.TheVariants as presented
 use Rattle.live_judge.specs.declared.fault.RefreshFault.TheVariants as faults
 use Rattle.live_meaning.specs.Refusals as rules
-use Rattle.std.proofs.Common.{◌≡◌, ◌≤◌, ℕ, ℤ, ◌+◌, List, [], Option, None, Some, option_map, IfSome, Result, Ok, Err, OnOk, sym, ap, ◌∙◌}
-use Rattle.std.proofs.Common.{subst, arith}
+use Rattle.std.proofs.Common.{◌≡◌, ◌≤◌, ℕ, ℤ, ◌+◌, List, [], ◌∷◌, drop, Option, None, Some, option_map, IfSome, Result, Ok, Err, OnOk}
+use Rattle.std.proofs.Common.{refl, sym, ap, ◌∙◌, subst, arith}
 use Rattle.std.specs.{Prelude.{IfOk, IfErr}, Option.option_map_or, Result.{result_ok, result_err}}
 use Rattle.bridge_io.proofs.AndThen.{steps_of}
 use Rattle.bridge_io.specs.Answer.{Gives, and_then, told_as}
-use Rattle.bridge_jobs.specs.Frames.{Framed, ReadsFrom, Stream as FrameStream, framed_as, frames_from, next_frame, refusal, stream_by}
+use Rattle.bridge_jobs.specs.Frames.{Framed, LeavesBehind, ReadsFrom, Stream as FrameStream, frame_size, framed_as, frames_from, next_frame}
+use Rattle.bridge_jobs.specs.Frames.{refusal, stream_by}
+use Rattle.bridge_jobs.proofs.Left.{same_rest}
 use Rattle.bridge_jobs.specs.{Laws.FramesFollow, declared.frame.Frame.Frame, declared.frame.FramePos.FramePos}
 use Rattle.bridge_jobs.specs.declared.frame.FrameFault.{FrameFault}
 use Rattle.presentation.specs.{Counting.count_of_all, Laws.CountedAreListed}
@@ -22,7 +24,7 @@ use Rattle.bridge_steps.specs.Follow.{Accepts}
 use Rattle.bridge_steps.specs.Playlists.{OutputPlace}
 use Rattle.bridge_live.specs.LiveMpds.{IsTaken, first_appends, frame_appends, frame_state, frame_stream, followed_mpd, next_state}
 use Rattle.bridge_steps.specs.Manifests.{values_of}
-use Rattle.bridge_steps.specs.Streams.{ReadsFirst}
+use Rattle.bridge_steps.specs.Streams.{ReadsFirst, first_size}
 use Rattle.bridge_live.specs.LiveMpds.{channel_with, judged_channel, players_after, session_of, told_of, update_of}
 use Rattle.bridge_live.specs.declared.channel.Channel.{Channel}
 use Rattle.segment_forms.specs.declared.form.Form.{Form}
@@ -30,19 +32,25 @@ use Rattle.bridge_live.proofs.LiveStates.{first_is_one, first_lists, one_more_of
 
 -- ---- a stream that is read frame by frame
 
-abbrev parts_of : FrameStream → List Frame × Option FrameFault
-parts_of stream = (stream.frames, stream.fault)
+abbrev parts_of : FrameStream → List Frame × Option FrameFault × List ℕ
+parts_of stream = (stream.frames, stream.fault, stream.taken)
 
 abbrev behind : Framed → FrameStream
 behind framed = frames_from framed.after framed.rest
 
 module _ (follows : FramesFollow) (at : FramePos) (bytes : List ℕ) where
   read_on : (next : Result (Option Framed) FrameFault) → next_frame at bytes ≡ next
-      → frame_stream at bytes ≡ parts_of (stream_by behind next)
-  read_on next is = ap parts_of (follows at bytes ∙ ap (stream_by behind) is)
+      → frame_stream at bytes ≡ parts_of (stream_by (frame_size at bytes) behind next)
+  read_on next is = ap parts_of (follows at bytes ∙ ap (stream_by (frame_size at bytes) behind) is)
+
+  sized : (next : Result (Option Framed) FrameFault) → next_frame at bytes ≡ next
+      → first_size (frame_stream at bytes) ≡ frame_size at bytes
+  sized (Ok None) is = ap first_size (read_on (Ok None) is)
+  sized (Ok (Some framed)) is = ap first_size (read_on (Ok (Some framed)) is)
+  sized (Err e) is = ap first_size (read_on (Err e) is)
 
   cut_off : (e : FrameFault) → IfSome (refusal e) (λ told. next_frame at bytes ≡ Err told)
-      → IfSome (refusal e) (λ told. frame_stream at bytes ≡ ([], Some told))
+      → IfSome (refusal e) (λ told. frame_stream at bytes ≡ ([], Some told, frame_size at bytes ∷ []))
   cut_off (fault.Header place) is = read_on (Err (fault.Header place)) is
   cut_off (fault.Cut place) is = read_on (Err (fault.Cut place)) is
   cut_off (fault.TooMany place) is = read_on (Err (fault.TooMany place)) is
@@ -51,12 +59,24 @@ module _ (follows : FramesFollow) (at : FramePos) (bytes : List ℕ) where
 
 pub frames_read : FramesFollow → (at after : FramePos) (result : Result (Option Frame) FrameFault) (before left : Option (List ℕ))
     → ReadsFrom (λ frame rest. option_map (λ f. framed_as f after rest) frame) result before left (next_frame at)
-    → ReadsFirst frame_stream at after result before left
-frames_read follows at after (Ok None) before left reads = λ bytes told. let read = reads bytes told in
-    (read.0, read.1, read_on follows at bytes (Ok None) read.2)
-frames_read follows at after (Ok (Some x)) before left reads = λ bytes told. let read = reads bytes told in
-    (read.0, read.1, read_on follows at bytes (Ok (Some (framed_as x after read.0))) read.2)
-frames_read follows at after (Err e) before left reads = λ bytes told. cut_off follows at bytes e (reads bytes told)
+    → LeavesBehind result (frame_size at) before left → ReadsFirst frame_stream at after result before left
+frames_read follows at after (Ok None) before left reads leaves = λ bytes told.
+    let read = reads bytes told in let size = frame_size at bytes in
+    (read.0, read.1, size, same_rest left read.0 (drop size bytes) read.1 (leaves bytes told), read_on follows at bytes (Ok None) read.2)
+frames_read follows at after (Ok (Some x)) before left reads leaves = λ bytes told.
+    let read = reads bytes told in let size = frame_size at bytes in (
+      read.0,
+      read.1,
+      size,
+      same_rest left read.0 (drop size bytes) read.1 (leaves bytes told),
+      read_on follows at bytes (Ok (Some (framed_as x after read.0))) read.2,
+    )
+frames_read follows at after (Err e) before left reads leaves = λ bytes told. (
+  frame_size at bytes,
+  sized follows at bytes (next_frame at bytes) refl,
+  leaves bytes told,
+  cut_off follows at bytes e (reads bytes told),
+)
 
 -- ---- what is refused
 

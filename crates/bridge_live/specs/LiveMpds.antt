@@ -152,4 +152,4 @@ told_by mpd = followed_mpd mpd.form (record { url = mpd.url; digits = mpd.digits
 
 -- the frames of a stream of bytes
 abbrev pub frame_stream : FramePos → List ℕ → Stream Frame
-frame_stream at bytes = let stream = frames_from at bytes in (stream.frames, stream.fault)
+frame_stream at bytes = let stream = frames_from at bytes in (stream.frames, stream.fault, stream.taken)

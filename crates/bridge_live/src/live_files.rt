@@ -25,7 +25,8 @@ pub fn write_live_files<F: Store>(
     players: &Option<Hints>,
     store: &mut F,
 ) -> Result<(), OutFault>
-    ensures ok { OnOk result (Changes (put_all (spec.live_files output.now players.now session.now)) (F.files store.old) (F.files store.new)) }
+    ensures ok { OnOk result (Changes (put_all (spec.live_files output.now players.now session.now)) (F.files store.old)
+        (F.files store.new)) }
     ensures err { OnErr result (AreBegun (spec.live_files output.now players.now session.now) (F.files store.old) (F.files store.new)) }
     ensures cause { HasCause WriteFault (F.write_faults store.old) (F.write_faults store.new) result }
     ensures reads { F.read_faults store.new ≡ F.read_faults store.old }

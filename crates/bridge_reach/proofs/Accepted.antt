@@ -6,7 +6,8 @@ use Rattle.bridge_io.proofs.AndThen.{steps_of}
 use Rattle.hls_follow.specs.declared.state.Followed.{Followed}
 use Rattle.dash_writer.specs.Live.{live_text}
 use Rattle.bridge_jobs.specs.{Frames.start, Laws.in_folder, declared.round.Round.Round}
-use Rattle.bridge_report.specs.{Following.{Followed as Told, unless_refused}, Laws.{FileIsOfAccepted, FilesAreOfAccepted, IsRewritten, accepted_in}}
+use Rattle.bridge_report.specs.{Following.{Followed as Told, unless_refused}, Laws.{FileIsOfAccepted, FilesAreOfAccepted, IsRewritten}}
+use Rattle.bridge_report.specs.Laws.{accepted_in}
 use Rattle.bridge_report.specs.Laws.{files_along, state_after}
 use Rattle.bridge_report.specs.{Refusals.refusal_text, declared.refusal.Refusal.Refusal}
 use Rattle.bridge_steps.specs.Follow.{fault_line}

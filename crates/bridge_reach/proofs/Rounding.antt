@@ -1,8 +1,8 @@
 -- Rounds that are read, and what they leave.
 use Rattle.bridge_jobs.specs.declared.frame.FrameFault.TheVariants as fault
 use Rattle.bridge_report.specs.declared.refusal.Refusal.TheVariants as refusals
-use Rattle.std.proofs.Common.{◌≡◌, ◌⊎◌, ℕ, ℤ, ◌+◌, List, [], ◌∷◌, length, Option, None, Some, option_map, IfSome, Result, Ok, Err, OnErr}
-use Rattle.std.proofs.Common.{OnOk, refl, sym, ap, ◌∙◌, subst, arith}
+use Rattle.std.proofs.Common.{◌≡◌, ◌⊎◌, ℕ, ℤ, ◌+◌, List, [], ◌∷◌, drop, length, Option, None, Some, option_map, IfSome, Result, Ok}
+use Rattle.std.proofs.Common.{Err, OnErr, OnOk, refl, sym, ap, ◌∙◌, subst, arith}
 use Rattle.std.specs.{Prelude.{IfErr, IfOk, IsSome}, Option.option_map_or, Result.{result_err, result_ok, result_unwrap_or}}
 use Rattle.bridge_io.specs.{Answer.{Gives, and_then, told_as}, InOrder.{AreBegun, put_all}, Outside.{Changes, Files, put}, Written.HasFront}
 use Rattle.bridge_io.specs.declared.out_fault.OutFault.{OutFault}
@@ -13,11 +13,12 @@ use Rattle.hls_media.specs.declared.media.Media.{Media}
 use Rattle.hls_follow.specs.Rounds.{Following, appended_by, followed_of, next_of}
 use Rattle.layer_faults.specs.declared.live.LiveFault.{LiveFault}
 use Rattle.hls_follow.specs.declared.state.Followed.{Followed}
-use Rattle.bridge_jobs.specs.{Frames.{ReadsFrom, refusal}, Laws.RoundsFollow}
-use Rattle.bridge_jobs.specs.Rounds.{RoundStream, Rounded, next_round, rounded_as, rounds_by, rounds_from}
+use Rattle.bridge_jobs.specs.{Frames.{LeavesBehind, ReadsFrom, refusal}, Laws.RoundsFollow}
+use Rattle.bridge_jobs.specs.Rounds.{RoundStream, Rounded, next_round, round_size, rounded_as, rounds_by, rounds_from}
+use Rattle.bridge_jobs.proofs.Left.{same_rest}
 use Rattle.bridge_jobs.specs.{declared.frame.FramePos.FramePos, declared.frame.FrameFault.FrameFault, declared.round.Round.Round}
 use Rattle.bridge_report.specs.{Refusals.{refusal_text, refused_in}, declared.refusal.Refusal.Refusal, declared.refusal.Stop.Stop}
-use Rattle.bridge_steps.specs.{Follow.Accepts, Streams.ReadsFirst}
+use Rattle.bridge_steps.specs.{Follow.Accepts, Streams.{ReadsFirst, first_size}}
 use Rattle.bridge_steps.proofs.Begun.{begun, one_put}
 use Rattle.bridge_reach.specs.Rounds.{IsKept, IsRead, followed_rounds, medias_of, mpd_text, round_appends, round_state, taken}
 use Rattle.bridge_reach.specs.{declared.rounds.LiveHls.LiveHls, declared.rounds.LiveRounds.LiveRounds}
@@ -29,11 +30,17 @@ behind tracks rounded = rounds_from tracks rounded.after rounded.rest
 
 module _ (follows : RoundsFollow) (tracks : ℕ) (at : FramePos) (bytes : List ℕ) where
   read_on : (next : Result (Option Rounded) FrameFault) → next_round tracks at bytes ≡ next
-      → rounds_from tracks at bytes ≡ rounds_by (behind tracks) next
-  read_on next is = follows tracks at bytes ∙ ap (rounds_by (behind tracks)) is
+      → rounds_from tracks at bytes ≡ rounds_by (round_size tracks at bytes) (behind tracks) next
+  read_on next is = follows tracks at bytes ∙ ap (rounds_by (round_size tracks at bytes) (behind tracks)) is
+
+  sized : (next : Result (Option Rounded) FrameFault) → next_round tracks at bytes ≡ next
+      → first_size (rounds_from tracks at bytes) ≡ round_size tracks at bytes
+  sized (Ok None) is = ap first_size (read_on (Ok None) is)
+  sized (Ok (Some rounded)) is = ap first_size (read_on (Ok (Some rounded)) is)
+  sized (Err e) is = ap first_size (read_on (Err e) is)
 
   cut_off : (e : FrameFault) → IfSome (refusal e) (λ told. next_round tracks at bytes ≡ Err told)
-      → IfSome (refusal e) (λ told. rounds_from tracks at bytes ≡ ([], Some told))
+      → IfSome (refusal e) (λ told. rounds_from tracks at bytes ≡ ([], Some told, round_size tracks at bytes ∷ []))
   cut_off (fault.Header place) is = read_on (Err (fault.Header place)) is
   cut_off (fault.Cut place) is = read_on (Err (fault.Cut place)) is
   cut_off (fault.TooMany place) is = read_on (Err (fault.TooMany place)) is
@@ -43,12 +50,29 @@ module _ (follows : RoundsFollow) (tracks : ℕ) (at : FramePos) (bytes : List �
 pub rounds_read : RoundsFollow → (tracks : ℕ) (at after : FramePos) (result : Result (Option Round) FrameFault)
     (before left : Option (List ℕ))
     → ReadsFrom (λ round rest. option_map (λ r. rounded_as r after rest) round) result before left (next_round tracks at)
-    → ReadsFirst (rounds_from tracks) at after result before left
-rounds_read follows tracks at after (Ok None) before left reads = λ bytes told. let read = reads bytes told in
-    (read.0, read.1, read_on follows tracks at bytes (Ok None) read.2)
-rounds_read follows tracks at after (Ok (Some x)) before left reads = λ bytes told. let read = reads bytes told in
-    (read.0, read.1, read_on follows tracks at bytes (Ok (Some (rounded_as x after read.0))) read.2)
-rounds_read follows tracks at after (Err e) before left reads = λ bytes told. cut_off follows tracks at bytes e (reads bytes told)
+    → LeavesBehind result (round_size tracks at) before left → ReadsFirst (rounds_from tracks) at after result before left
+rounds_read follows tracks at after (Ok None) before left reads leaves = λ bytes told.
+    let read = reads bytes told in let size = round_size tracks at bytes in (
+      read.0,
+      read.1,
+      size,
+      same_rest left read.0 (drop size bytes) read.1 (leaves bytes told),
+      read_on follows tracks at bytes (Ok None) read.2,
+    )
+rounds_read follows tracks at after (Ok (Some x)) before left reads leaves = λ bytes told.
+    let read = reads bytes told in let size = round_size tracks at bytes in (
+      read.0,
+      read.1,
+      size,
+      same_rest left read.0 (drop size bytes) read.1 (leaves bytes told),
+      read_on follows tracks at bytes (Ok (Some (rounded_as x after read.0))) read.2,
+    )
+rounds_read follows tracks at after (Err e) before left reads leaves = λ bytes told. (
+  round_size tracks at bytes,
+  sized follows tracks at bytes (next_round tracks at bytes) refl,
+  leaves bytes told,
+  cut_off follows tracks at bytes e (reads bytes told),
+)
 
 pub is_read : (hls : LiveHls) (result : Result (Option Round) FrameFault) → IfOk result (λ round. IfSome round (λ r. IsReadable r.now))
     → IfOk result (λ round. IfSome round (λ r. length r.bodies ≡ length hls.urls)) → IfOk result (λ round. IfSome round (λ r. IsRead hls r))

@@ -1,5 +1,6 @@
 -- What snapshots leave that are accepted one after another by their media files.
-use Rattle.std.proofs.Common.{◌≡◌, ℕ, ◌+◌, cond, List, [], ◌∷◌, take, Option, None, Some, option_map, Result, Ok, Err, refl, sym, ap, ◌∙◌, subst}
+use Rattle.std.proofs.Common.{◌≡◌, ℕ, ◌+◌, cond, List, [], ◌∷◌, take, Option, None, Some, option_map, Result, Ok, Err, refl, sym, ap, ◌∙◌}
+use Rattle.std.proofs.Common.{subst}
 use Rattle.std.proofs.lemmas.Slice.Eq.{bytes_eq-Decides}
 use Rattle.std.specs.{Prelude.{IsSome, codes}, Option.option_map_or, Result.{result_err, result_unwrap_or}}
 use Rattle.bridge_io.specs.{Answer.told_as, InOrder.put_all, Outside.{Changes, Files}}
@@ -9,8 +10,9 @@ use Rattle.hls_media.specs.declared.media.Media.{Media}
 use Rattle.hls_follow.specs.{declared.state.Followed.Followed, Rounds.Following, TimedRounds.{next_timed, timed_of}}
 use Rattle.dash_writer.specs.Live.{live_text}
 use Rattle.bridge_jobs.specs.{Frames.start, Laws.in_folder, declared.round.Round.Round}
-use Rattle.bridge_courses.specs.{Courses.files_to, Steps.with_step}
-use Rattle.bridge_report.specs.{Following.{accepted_with, course_from, judged_from, next_of, step_of, unless_refused}, Refusals.refusal_text}
+use Rattle.bridge_courses.specs.{Courses.files_to, Steps.{taking, with_step}}
+use Rattle.bridge_report.specs.Following.{accepted_with, course_from, judged_from, next_of, step_of, unless_refused}
+use Rattle.bridge_report.specs.Refusals.{refusal_text}
 use Rattle.bridge_report.specs.Laws.{IsRewritten, files_along, state_after}
 use Rattle.bridge_report.proofs.FollowedLaws.{file_is as file_of, files_are}
 use Rattle.bridge_steps.specs.Follow.{fault_line}
@@ -99,11 +101,12 @@ module _ (hls : TimedHls) where
 
 pub courses_are : TimedCoursesAreFollowed
 courses_are run = let hls = hls_in run in let stream = round_stream hls.hls start run.bytes in
-    courses hls run.files (first_of run).0 0 0 stream.0 (option_map fault_line stream.1)
+    ap (taking stream.2) (courses hls run.files (first_of run).0 0 0 stream.0 (option_map fault_line stream.1))
 
 pub leave_an_mpd : AcceptedLeaveATimedMpd
 leave_an_mpd run n round more is =
-    comes (followed_with (hls_in run)) (HasMpd (hls_in run)) (leaves_mpd (hls_in run)) (take n (snapshots_in run)) (first_of run) round more is
+    comes (followed_with (hls_in run)) (HasMpd (hls_in run)) (leaves_mpd (hls_in run)) (take n (snapshots_in run))
+    (first_of run) round more is
 
 pub file_is : TimedFileIsOfTheHistory
 file_is run n followed first last left puts = go (accepted_among run n) refl left
@@ -113,7 +116,8 @@ file_is run n followed first last left puts = go (accepted_among run n) refl lef
         → last (in_folder run.job.out (codes "live.mpd")) ≡ Some (live_text run.job.form followed.mpd)
     go [] e none = absurd (cc)
     go (x ∷ more) e left = let hls = hls_in run in let stream = round_stream hls.hls start run.bytes in
-        file_of (followed_with hls) (in_folder run.job.out (codes "live.mpd")) (λ s. mpd_text run.job.form s.0) (rewritten hls) (first_of run)
+        file_of (followed_with hls) (in_folder run.job.out (codes "live.mpd")) (λ s. mpd_text run.job.form s.0) (rewritten hls)
+        (first_of run)
         0 0 stream.0 (option_map fault_line stream.1) n x more first last e
         (subst (λ course. Changes (put_all (files_to n course)) (Some first) (Some last)) (courses_are run) puts)
         ∙ ap (λ (o : Option Followed). Some (option_map_or (λ f. live_text run.job.form f.mpd) o [])) left

@@ -2,14 +2,14 @@
 use Rattle.bridge_courses.specs.declared.ending.Ending.TheVariants as ending
 use Rattle.bridge_courses.specs.declared.status.Verdict.TheVariants as verdict
 use Rattle.bridge_report.specs.declared.reading.Halt.TheVariants as halt
-use Rattle.std.proofs.Common.{◌≡◌, ◌⊎◌, ℕ, true, false, IsTrue, List, Option, None, Some, IfSome, Result, Ok, Err, inl, inr, refl, sym, ◌∙◌}
-use Rattle.std.proofs.{Common.{subst, arith}, lemmas.List.length-map}
+use Rattle.std.proofs.Common.{◌≡◌, ◌⊎◌, ℕ, true, false, IsTrue, List, [], Option, None, Some, IfSome, Result, Ok, Err, inl, inr}
+use Rattle.std.proofs.{Common.{refl, sym, ◌∙◌, subst, arith}, lemmas.List.length-map}
 use Rattle.std.specs.Option.{ForSome, option_and_then}
 use Rattle.bridge_io.specs.{Fault.Rose, Outside.Files}
 use Rattle.hls_master.specs.declared.track.MasterTrack.{MasterTrack}
 use Rattle.bridge_courses.specs.{Courses.{Course, World}, Executions.NeverFalls, Steps.{Work, first_step}}
 use Rattle.bridge_courses.specs.declared.ending.Ending.{Ending}
-use Rattle.bridge_courses.proofs.Stepping.{IsIdle, ends, memory_first, read_fault_first, work_later}
+use Rattle.bridge_courses.proofs.Stepping.{IsIdle, ends, memory_first, none_taken, read_fault_first, up_to_none, work_later}
 use Rattle.bridge_report.specs.{Outcomes.{Ends, IsHalt, course_by}, Reading.{Named, halted}, Refusals.refusal_line}
 use Rattle.bridge_report.specs.declared.reading.Halt.{Halt}
 use Rattle.bridge_jobs.specs.Frames.{start}
@@ -60,13 +60,13 @@ module _ (of : Files → Result (List MasterTrack) Named → Option Course) (led
 
   -- the master is read, and then its rounds
   pub read_worked : (tracks : List MasterTrack) (before mid after : World) → ForSome files (λ all. master_at place all ≡ Ok tracks)
-      → IsIdle before mid → NeverFalls before mid
+      → IsIdle before mid → mid.input ≡ before.input → NeverFalls before mid
       → ForSome files (λ all. ForSome (of all (Ok tracks)) (λ course. Work course told mid after))
       → ForSome led_course (λ course. Work course told before after)
-  read_worked tracks before mid after found idle falls work =
+  read_worked tracks before mid after found idle unread falls work =
       over_files files (λ all. of all (master_at place all)) (λ course. Work course told before after) (λ all is.
       subst (λ read. ForSome (of all read) (λ course. Work course told before after)) (sym (found all is))
-      (λ course there. work_later course told before mid after idle falls (work all is course there)))
+      (λ course there. work_later course told before mid after idle unread falls (work all is course there)))
 
   reads_at_first : (all : Files) (read : Result (List MasterTrack) Named)
       → ForSome (of all read) (λ course. IsTrue (first_step course).reads)
@@ -74,7 +74,7 @@ module _ (of : Files → Result (List MasterTrack) Named → Option Course) (led
   reads_at_first all (Err named) = λ course is. let refuses = led.refuses all named in
       let same : refused_course named ≡ course = cc in subst (λ c. IsTrue (first_step c).reads) same refl
 
-  module _ (before after : World) (idle : IsIdle before after) (falls : NeverFalls before after) where
+  module _ (before after : World) (idle : IsIdle before after) (unread : after.input ≡ before.input) (falls : NeverFalls before after) where
     -- a master that is refused
     refused_so : (all : Files) (named : Named)
         → (told ≡ ending.Ended verdict.Refused (refusal_line named.0 named.1)) ⊎ (told ≡ ending.Memory)
@@ -83,7 +83,8 @@ module _ (of : Files → Result (List MasterTrack) Named → Option Course) (led
         let line = refusal_line named.0 named.1 in let refuses = led.refuses all named in
         let same : refused_course named ≡ course = cc in
         subst (λ c. Work c told before after) same (record {
-          works = ends (record { verdict = verdict.Refused; lines = line; reads = true }) told before after last idle;
+          works = ends (record { verdict = verdict.Refused; lines = line; reads = true }) [] told before after last
+              (none_taken before.input after.input unread) idle;
           never_falls = falls;
         })
 
@@ -98,12 +99,16 @@ module _ (of : Files → Result (List MasterTrack) Named → Option Course) (led
     halt_worked halt.ReadFault last rose found =
         over_files files (λ all. of all (master_at place all)) (λ course. Work course told before after) (λ all is course same.
         subst (λ t. Work course t before after) (sym last) (record {
-          works = read_fault_first course before after (reads_at_first all (master_at place all) course same) (inl (rose refl)) idle;
+          works = read_fault_first course before after (reads_at_first all (master_at place all) course same)
+              (inl (rose refl, inl unread)) idle;
           never_falls = falls;
         }))
     halt_worked halt.Memory last rose found =
         over_files files (λ all. of all (master_at place all)) (λ course. Work course told before after) (λ all is course same.
-        subst (λ t. Work course t before after) (sym last) (record { works = memory_first course before after idle; never_falls = falls }))
+        subst (λ t. Work course t before after) (sym last) (record {
+          works = memory_first course before after idle (up_to_none _ before.input after.input unread);
+          never_falls = falls;
+        }))
 
 -- what is worked off by the files after the master playlist was read is worked off by those before
 pub work_by_files : (job : MasterJob) (place : StorePlace) (tracks : List MasterTrack) (input : Option (List ℕ)) (told : Ending)

@@ -3,7 +3,8 @@ use Rattle.std.proofs.Common.{◌≡◌, ℕ, zero, suc, ◌+◌, true, List, []
 use Rattle.bridge_io.specs.{Outside.{Files, Changes}, InOrder.put_all}
 use Rattle.bridge_courses.specs.{Courses.{Step, files_to}, Steps.with_step}
 use Rattle.bridge_courses.proofs.Stepping.{put_all-both}
-use Rattle.bridge_report.specs.{Following.{Followed, unless_refused, line_by, step_of, next_of, accepted_with, course_from, judged_from}, Laws.Mirrors}
+use Rattle.bridge_report.specs.Following.{Followed, unless_refused, line_by, step_of, next_of, accepted_with, course_from, judged_from}
+use Rattle.bridge_report.specs.Laws.{Mirrors}
 use Rattle.bridge_report.specs.Laws.{MirrorsHaveOneCourse, accepted_in, state_after, files_along, FilesAreOfAccepted, IsRewritten}
 use Rattle.bridge_report.specs.Laws.{FileIsOfAccepted, JudgedAlike}
 

@@ -15,17 +15,19 @@ pub data Outcome : Type 0 where
   Ends : (verdict : Verdict) (line : List ℕ) (reads counts : Bool) → Outcome
   Writes : (files : List (List ℕ × List ℕ)) (line : List ℕ) (reads : Bool) → Outcome
 
--- The number of segments made isn't specified where some may be.
+-- The number of segments made isn't specified where some may be. Nothing of standard input is read.
 abbrev pub course_by : Outcome → Course
 course_by (Ends end line reads counts) = record {
   steps = [];
   end = record { verdict = end; lines = line; reads = reads };
   counts = counts;
+  taken = [];
 }
 course_by (Writes files line reads) = record {
   steps = record { files = files; lines = []; least = 0; most = 0; reads = reads } ∷ [];
   end = record { verdict = verdict.Done; lines = line; reads = false };
   counts = false;
+  taken = [];
 }
 
 -- ---- how the work of a command ends, and what it leaves of the files

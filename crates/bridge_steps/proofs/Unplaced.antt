@@ -5,7 +5,7 @@ use Rattle.bridge_report.specs.declared.refusal.Refusal.TheVariants as refusal
 use Rattle.std.proofs.Common.{◌≡◌, Option, None, Some, inl, inr, refl, subst, sym, arith}
 use Rattle.std.specs.{Option.ForSome, Prelude.codes}
 use Rattle.bridge_courses.specs.{declared.ending.Ending.Ending, Courses.{Course, World}, Executions.NeverFalls, Steps.{IsCaused, Work}}
-use Rattle.bridge_courses.proofs.Stepping.{memory_first}
+use Rattle.bridge_courses.proofs.Stepping.{memory_first, up_to_none}
 use Rattle.bridge_report.specs.{Outcomes.{base_refused, course_by}, Refusals.refusal_line}
 use Rattle.bridge_steps.specs.{Endings.IsUnplaced, Follow.course_placed}
 use Rattle.bridge_steps.proofs.Works.{works}
@@ -15,12 +15,15 @@ stays w = record { input = omega arith; reads = omega arith; writes = omega arit
 
 pub memory_worked : (course : Course) (w : World) → Work course ending.Memory w w
 memory_worked course w =
-    record { works = memory_first course w w (record { files = refl; report = refl; made = refl }); never_falls = stays w }
+    record {
+      works = memory_first course w w (record { files = refl; report = refl; made = refl }) (up_to_none _ w.input w.input refl);
+      never_falls = stays w;
+    }
 
 refused_worked : (w : World) → Work (course_by base_refused) (ending.Ended verdict.Refused (refusal_line (codes "-") refusal.Base)) w w
 refused_worked w = record {
   works = works base_refused (ending.Ended verdict.Refused (refusal_line (codes "-") refusal.Base)) w w (refl, refl, refl)
-      (λ is. absurd (cc)) (λ is. absurd (cc)) refl (λ counts. refl);
+      (λ is. absurd (cc)) (λ is. absurd (cc)) refl refl (λ counts. refl);
   never_falls = stays w;
 }
 

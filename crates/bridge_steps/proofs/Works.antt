@@ -10,7 +10,7 @@ use Rattle.bridge_io.specs.{Fault.Rose, InOrder.put_all}
 use Rattle.bridge_courses.specs.{declared.status.Verdict.Verdict, declared.status.Status.Status, declared.ending.Ending.Ending}
 use Rattle.bridge_courses.specs.{Executions.{Works, Finishes, TellsAs, status_of, status_untold, words_line}, Steps.Work}
 use Rattle.bridge_courses.specs.Courses.{World, Whole, Step, Reaches, last_step}
-use Rattle.bridge_courses.proofs.Stepping.{none_put, none_told}
+use Rattle.bridge_courses.proofs.Stepping.{none_put, none_taken, none_told, up_to_none}
 use Rattle.bridge_report.specs.Outcomes.{Outcome, Ends, Writes, course_by, IsSaid, IsEnding}
 use Rattle.bridge_steps.specs.Endings.{EndsAs, Surroundings}
 use Rattle.bridge_steps.proofs.Endings.{over}
@@ -45,13 +45,15 @@ first_step (Ends v l reads counts) = last_step (course_by (Ends v l reads counts
 first_step (Writes files l reads) = record { files = files; lines = []; least = 0; most = 0; reads = reads }
 
 reached : (outcome : Outcome) (w : World) → Reaches (course_by outcome) w w (first_step outcome)
-reached (Ends v l reads counts) w = record { n = 0; next = refl; whole = at_first (Ends v l reads counts) w }
-reached (Writes files l reads) w = record { n = 0; next = refl; whole = at_first (Writes files l reads) w }
+reached (Ends v l reads counts) w =
+    record { n = 0; next = refl; whole = at_first (Ends v l reads counts) w; input = none_taken w.input w.input refl }
+reached (Writes files l reads) w =
+    record { n = 0; next = refl; whole = at_first (Writes files l reads) w; input = none_taken w.input w.input refl }
 
 said : (outcome : Outcome) (end : Verdict) (line : List ℕ) (before after : World) → IsSaid outcome end line before.files after.files
-    → after.report ≡ before.report
+    → after.report ≡ before.report → after.input ≡ before.input
     → (IsTrue (course_by outcome).counts → after.made ≡ before.made) → Finishes (course_by outcome) end line before after
-said (Ends v l reads counts) end line before after is report made = record {
+said (Ends v l reads counts) end line before after is report unread made = record {
   whole =
       record {
         files =
@@ -61,8 +63,9 @@ said (Ends v l reads counts) end line before after is report made = record {
       };
   verdict = is.0;
   lines = is.1;
+  input = none_taken before.input after.input unread;
 }
-said (Writes files l reads) end line before after is report made = record {
+said (Writes files l reads) end line before after is report unread made = record {
   whole = record {
     files = is.2 ∙ ap (λ fs. option_map (put_all fs) before.files) (sym (append-nil files));
     report = none_told before.report after.report report;
@@ -70,38 +73,41 @@ said (Writes files l reads) end line before after is report made = record {
   };
   verdict = is.0;
   lines = is.1;
+  input = none_taken before.input after.input unread;
 }
 
 -- a run that tells nothing before its end works so
 pub works : (outcome : Outcome) (told : Ending) (before after : World) → IsEnding outcome told before.files after.files
     → (told ≡ ending.ReadFault → Rose before.read_faults after.read_faults)
     → (told ≡ ending.WriteFault → Rose before.write_faults after.write_faults)
-    → after.report ≡ before.report → (IsTrue (course_by outcome).counts → after.made ≡ before.made)
+    → after.report ≡ before.report → after.input ≡ before.input → (IsTrue (course_by outcome).counts → after.made ≡ before.made)
     → Works (course_by outcome) told before after
-works outcome (ending.Ended end line) before after is read write report made = said outcome end line before after is report made
-works outcome ending.Words before after is read write report made = said outcome verdict.Words words_line before after is report made
-works (Ends v l reads counts) ending.ReadFault before after is read write report made = record {
+works outcome (ending.Ended end line) before after is read write report unread made =
+    said outcome end line before after is report unread made
+works outcome ending.Words before after is read write report unread made =
+    said outcome verdict.Words words_line before after is report unread made
+works (Ends v l reads counts) ending.ReadFault before after is read write report unread made = record {
   mid = before;
   step = first_step (Ends v l reads counts);
   reaches = reached (Ends v l reads counts) before;
   reads = is.0;
-  rose = inl (read refl);
+  rose = inl (read refl, inl unread);
   files = is.1;
   made = none_made counts before.made after.made made;
   report = report;
 }
-works (Writes files l reads) ending.ReadFault before after is read write report made = record {
+works (Writes files l reads) ending.ReadFault before after is read write report unread made = record {
   mid = before;
   step = first_step (Writes files l reads);
   reaches = reached (Writes files l reads) before;
   reads = is.0;
-  rose = inl (read refl);
+  rose = inl (read refl, inl unread);
   files = is.1;
   made = none_made false before.made after.made made;
   report = report;
 }
-works (Ends v l reads counts) ending.WriteFault before after is read write report made = absurd is
-works (Writes files l reads) ending.WriteFault before after is read write report made = record {
+works (Ends v l reads counts) ending.WriteFault before after is read write report unread made = absurd is
+works (Writes files l reads) ending.WriteFault before after is read write report unread made = record {
   mid = before;
   step = first_step (Writes files l reads);
   reaches = reached (Writes files l reads) before;
@@ -109,30 +115,31 @@ works (Writes files l reads) ending.WriteFault before after is read write report
   files = is;
   made = none_made false before.made after.made made;
   report = report;
+  input = none_taken before.input after.input unread;
 }
-works (Ends v l reads counts) ending.Memory before after (inl same) read write report made = record {
+works (Ends v l reads counts) ending.Memory before after (inl same) read write report unread made = record {
   mid = before;
   step = first_step (Ends v l reads counts);
   reaches = reached (Ends v l reads counts) before;
-  left = inl (same, none_made counts before.made after.made made);
+  left = inl (same, none_made counts before.made after.made made, up_to_none 0 before.input after.input unread);
   report = report;
 }
-works (Ends v l reads counts) ending.Memory before after (inr begun) read write report made = absurd begun
-works (Writes files l reads) ending.Memory before after (inl same) read write report made = record {
+works (Ends v l reads counts) ending.Memory before after (inr begun) read write report unread made = absurd begun
+works (Writes files l reads) ending.Memory before after (inl same) read write report unread made = record {
   mid = before;
   step = first_step (Writes files l reads);
   reaches = reached (Writes files l reads) before;
-  left = inl (same, none_made false before.made after.made made);
+  left = inl (same, none_made false before.made after.made made, up_to_none 0 before.input after.input unread);
   report = report;
 }
-works (Writes files l reads) ending.Memory before after (inr begun) read write report made = record {
+works (Writes files l reads) ending.Memory before after (inr begun) read write report unread made = record {
   mid = before;
   step = first_step (Writes files l reads);
   reaches = reached (Writes files l reads) before;
-  left = inr (inl begun, none_made false before.made after.made made);
+  left = inr (inl begun, none_made false before.made after.made made, none_taken before.input after.input unread);
   report = report;
 }
-works outcome (ending.Cut fail) before after is read write report made = absurd is
+works outcome (ending.Cut fail) before after is read write report unread made = absurd is
 
 -- what a command meets of what a run meets
 abbrev pub met : World → Surroundings
@@ -141,13 +148,13 @@ met world =
 
 -- the work of a command that leaves the input and the report, of the course that its outcome is
 pub work_of : (o : Option Outcome) (told : Ending) (before after : World) → EndsAs o told (met before) (met after)
-    → after.input_faults ≡ before.input_faults → after.report_faults ≡ before.report_faults → after.report ≡ before.report
-    → ForSome (option_map course_by o) (λ course. Work course told before after)
-work_of o told before after ends input faults report =
+    → after.input ≡ before.input → after.input_faults ≡ before.input_faults → after.report_faults ≡ before.report_faults
+    → after.report ≡ before.report → ForSome (option_map course_by o) (λ course. Work course told before after)
+work_of o told before after ends unread input faults report =
     over course_by o (λ course. Work course told before after) (λ outcome is. record {
       works =
           works outcome told before after (ends.ending outcome is) (λ e. ends.read_fault (ap status_of e))
-          (λ e. ends.write_fault (ap status_of e)) report
+          (λ e. ends.write_fault (ap status_of e)) report unread
           (ends.made outcome is);
       never_falls =
           record { input = omega (arith, input); reads = ends.reads; writes = ends.writes; report = omega (arith, faults) };

@@ -9,7 +9,7 @@ use Rattle.bridge_io.specs.declared.outside.Store.{Ghosts as Store}
 use Rattle.bridge_io.specs.{declared.outside.Sink.Ghosts as Sink}
 use Rattle.bridge_jobs.specs.{Frames.{IsFramePos, start}, declared.frame.FramePos.FramePos, declared.frame.FrameFault.FrameFault}
 use Rattle.bridge_courses.specs.{declared.ending.Ending.Ending, Courses.{Course, Step, World}, Executions.NeverFalls}
-use Rattle.bridge_courses.specs.Steps.{IsCaused, Outside, Stops, Work, outside_of}
+use Rattle.bridge_courses.specs.Steps.{IsCaused, Outside, Stops, Work, outside_of, taking}
 use Rattle.bridge_report.specs.{Following.{Followed, course_from, judged_from}, Outcomes.{IsRefusal, base_refused, course_by}}
 use Rattle.bridge_report.specs.Refusals.{refusal_line}
 use Rattle.bridge_steps.specs.{declared.run.Following.Following, Streams.Stream}
@@ -36,21 +36,28 @@ ForFiles reads files holds = ForSome (files_seen reads files) holds
 abbrev pub fault_line : FrameFault → List ℕ
 fault_line fault = refusal_line (codes "-") (refusal.Frame fault)
 
--- the course of the remaining stream, after some frames, some of which were accepted, by whether frames are judged by files
+-- the course of some frames, after some others, some of which were accepted, by whether frames are judged by files
+abbrev pub frames_course : {S X : Type 0} → (reads : Bool) → (told : Files → Followed S X) → Files → S → (frames accepted : ℕ) → List X
+    → (fault : Option (List ℕ)) → Course
+frames_course false told files s i a xs fault = course_from (told files) s i a xs fault
+frames_course true told files s i a xs fault = judged_from told files s i a xs fault
+
+-- the course of the remaining stream, with what each frame asks for
 abbrev pub course_of : {S X : Type 0} → (reads : Bool) → (told : Files → Followed S X) → Files → S → (frames accepted : ℕ) → Stream X
     → Course
-course_of false told files s i a stream = course_from (told files) s i a stream.0 (option_map fault_line stream.1)
-course_of true told files s i a stream = judged_from told files s i a stream.0 (option_map fault_line stream.1)
+course_of reads told files s i a stream =
+    taking stream.2 (frames_course reads told files s i a stream.0 (option_map fault_line stream.1))
 
 -- the course of a stream of bytes, from a state
 abbrev pub follow_course : {S X : Type 0} → Followed S X → (stream : FramePos → List ℕ → Stream X) → S → (bytes : List ℕ) → Course
-follow_course f stream s bytes = let frames = stream start bytes in course_from f s 0 0 frames.0 (option_map fault_line frames.1)
+follow_course f stream s bytes = let frames = stream start bytes in
+    taking frames.2 (course_from f s 0 0 frames.0 (option_map fault_line frames.1))
 
 -- the same, where each frame is judged by the files as they are then
 abbrev pub judged_course : {S X : Type 0} → (told : Files → Followed S X) → (stream : FramePos → List ℕ → Stream X) → S → Files
     → (bytes : List ℕ) → Course
 judged_course told stream s files bytes = let frames = stream start bytes in
-    judged_from told files s 0 0 frames.0 (option_map fault_line frames.1)
+    taking frames.2 (judged_from told files s 0 0 frames.0 (option_map fault_line frames.1))
 
 -- either, where the files that matter and the input are modelled
 abbrev pub whole_course : {S X : Type 0} → (reads : Bool) → (told : Files → Followed S X) → (stream : FramePos → List ℕ → Stream X) → S
@@ -98,6 +105,7 @@ abbrev pub world_of : {I F P : Type 0} → Source I → Store F → Sink P → I
 world_of source store sink input files report made = record {
   files = store.files files;
   report = sink.written report;
+  input = source.remaining input;
   input_faults = source.faults input;
   read_faults = store.read_faults files;
   write_faults = store.write_faults files;
@@ -105,12 +113,13 @@ world_of source store sink input files report made = record {
   made = made;
 }
 
--- the same beside the input
-abbrev pub world_beside : {F P : Type 0} → Store F → Sink P → (input_faults : ℕ) → F → P → (made : ℕ) → World
-world_beside store sink input_faults files report made = record {
+-- the same beside an input, of which there are its unread bytes and its count of faults
+abbrev pub world_beside : {F P : Type 0} → Store F → Sink P → (input : Option (List ℕ) × ℕ) → F → P → (made : ℕ) → World
+world_beside store sink input files report made = record {
   files = store.files files;
   report = sink.written report;
-  input_faults = input_faults;
+  input = input.0;
+  input_faults = input.1;
   read_faults = store.read_faults files;
   write_faults = store.write_faults files;
   report_faults = sink.faults report;
@@ -119,7 +128,7 @@ world_beside store sink input_faults files report made = record {
 
 -- for a frame that was read: the input isn't touched
 abbrev pub beside_input : {F P : Type 0} → Store F → Sink P → F → P → (made : ℕ) → World
-beside_input store sink = world_beside store sink 0
+beside_input store sink = world_beside store sink (None, 0)
 
 -- and where no segment is made
 abbrev pub outside_at : {F P : Type 0} → Store F → Sink P → F → P → Outside

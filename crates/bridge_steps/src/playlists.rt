@@ -103,9 +103,11 @@ pub fn write_playlists<F: Store, L: Ledger>(
     store: &mut F,
     steps: &mut Steps<L>,
 ) -> Result<(), OutFault>
-    ensures ok { OnOk result (Changes (put_all (spec.playlists output.now ready.now.players ready.now.digits ready.now.presentation)) (F.files store.old)
+    ensures ok { OnOk result (Changes (put_all (spec.playlists output.now ready.now.players ready.now.digits ready.now.presentation))
+        (F.files store.old)
         (F.files store.new)) }
-    ensures err { OnErr result (AreBegun (spec.playlists output.now ready.now.players ready.now.digits ready.now.presentation) (F.files store.old)
+    ensures err { OnErr result (AreBegun (spec.playlists output.now ready.now.players ready.now.digits ready.now.presentation)
+        (F.files store.old)
         (F.files store.new)) }
     ensures cause { HasCause WriteFault (F.write_faults store.old) (F.write_faults store.new) result }
     ensures reads { F.read_faults store.new ≡ F.read_faults store.old }
@@ -128,9 +130,11 @@ fn write_tracks<F: Store, L: Ledger>(
     store: &mut F,
     steps: &mut Steps<L>,
 ) -> Result<(), OutFault>
-    ensures ok { OnOk result (Changes (put_all (spec.track_files output.now ready.now.players ready.now.digits ready.now.presentation)) (F.files store.old)
+    ensures ok { OnOk result (Changes (put_all (spec.track_files output.now ready.now.players ready.now.digits ready.now.presentation))
+        (F.files store.old)
         (F.files store.new)) }
-    ensures err { OnErr result (AreBegun (spec.track_files output.now ready.now.players ready.now.digits ready.now.presentation) (F.files store.old)
+    ensures err { OnErr result (AreBegun (spec.track_files output.now ready.now.players ready.now.digits ready.now.presentation)
+        (F.files store.old)
         (F.files store.new)) }
     ensures cause { HasCause WriteFault (F.write_faults store.old) (F.write_faults store.new) result }
     ensures reads { F.read_faults store.new ≡ F.read_faults store.old }
@@ -152,7 +156,8 @@ fn write_track<F: Store, L: Ledger>(
     requires { track < length ready.now.presentation.tracks }
     ensures ok { OnOk result (let file = spec.track_file output.now ready.now.players ready.now.digits ready.now.presentation track in
         Changes (put file.0 file.1) (F.files store.old) (F.files store.new)) }
-    ensures err { OnErr result (MayBegin (spec.track_file output.now ready.now.players ready.now.digits ready.now.presentation track) (F.files store.old)
+    ensures err { OnErr result (MayBegin (spec.track_file output.now ready.now.players ready.now.digits ready.now.presentation track)
+        (F.files store.old)
         (F.files store.new)) }
     ensures cause { HasCause WriteFault (F.write_faults store.old) (F.write_faults store.new) result }
     ensures reads { F.read_faults store.new ≡ F.read_faults store.old }

@@ -1,5 +1,5 @@
 // The run of following.
-ghost use Rattle.std.specs.Prelude.{◌≡◌, ◌⊎◌, ◌+◌, ◌<◌, ◌≤◌, List, ℕ, Some, MatchResult, OnOk, IfOk, IfErr, false};
+ghost use Rattle.std.specs.Prelude.{◌≡◌, ◌⊎◌, ◌+◌, ◌<◌, ◌≤◌, List, ℕ, Option, Some, MatchResult, OnOk, IfOk, IfErr, false};
 ghost use Rattle.bridge_io.specs.InOrder.{put_all};
 ghost use Rattle.bridge_io.specs.Outside.{Changes, Appends, Files};
 ghost use Rattle.bridge_jobs.specs.Frames.{most_frames};
@@ -158,7 +158,7 @@ fn follow_frame<T: Follow, F: Store, P: Sink, L: Ledger>(
     ensures stops { IfErr result (λ told. ForFiles (T.reads followed.now) (F.files store.old) (λ files.
         EndsIn (step_of (T.told followed.now files) live.old index frame.now) told
         (beside_input F.Store P.Sink store.old report.old steps.old) (beside_input F.Store P.Sink store.new report.new steps.new))) }
-    ensures caused { IfErr result (λ told. (input input' : ℕ) → IsCausedBy (T.reads followed.now) told
+    ensures caused { IfErr result (λ told. (input input' : Option (List ℕ) × ℕ) → IsCausedBy (T.reads followed.now) told
         (world_beside F.Store P.Sink input store.old report.old steps.old)
         (world_beside F.Store P.Sink input' store.new report.new steps.new)) }
     ensures told { Grows (P.written report.old) (P.written report.new) }
@@ -199,7 +199,7 @@ fn publish<T: Follow, F: Store, P: Sink>(
     ensures err { IfErr result (λ told. ForFiles (T.reads followed.now) (F.files store.old) (λ files.
         Halts ((T.told followed.now files).files live.now) (accepted_line index appended) told
         (outside_at F.Store P.Sink store.old report.old) (outside_at F.Store P.Sink store.new report.new))) }
-    ensures caused { IfErr result (λ told. (input input' made : ℕ) → IsCaused told
+    ensures caused { IfErr result (λ told. (input input' : Option (List ℕ) × ℕ) (made : ℕ) → IsCaused told
         (world_beside F.Store P.Sink input store.old report.old made) (world_beside F.Store P.Sink input' store.new report.new made)) }
     ensures told { Grows (P.written report.old) (P.written report.new) }
     ensures counts { (F.write_faults store.old ≤ F.write_faults store.new) × (P.faults report.old ≤ P.faults report.new) }

@@ -8,6 +8,7 @@ use Rattle.bridge_jobs.specs.Frames.{behind, by_next, header_at, header_by_line,
 use Rattle.bridge_jobs.specs.{Frames.{piece_of, some_of, without_end}, Headers.cut_at_space, Jobs.{◌>>=◌, instant_in}, Rounds.Bodies}
 use Rattle.bridge_jobs.specs.Rounds.{Rounded, after_bodies, and_bodies, bodies_of, counted, first_part, header_by, header_of, lengths_of}
 use Rattle.bridge_jobs.specs.Rounds.{most_bodies, most_header, next_length, next_round, round_by_line, rounded_as, rounded_if, rounds_by}
+use Rattle.bridge_jobs.specs.Rounds.{round_size}
 use Rattle.bridge_jobs.specs.{Rounds.{rounds_within, timed_lengths}, declared.lengths.RoundHeader.RoundHeader}
 use Rattle.bridge_jobs.specs.{declared.frame.FramePos.FramePos, declared.frame.FrameFault.FrameFault}
 use Rattle.bridge_jobs.specs.{declared.frame.FrameFault.TheVariants.{Cut, Header, TooMany}, declared.round.Round.Round}
@@ -177,7 +178,8 @@ module _ (IsInstant : ℤ → Type 0) (read : (text : List ℕ) (now : ℤ) → 
     where
       go : (r : Result (Option Rounded) FrameFault) → next_round tracks at bytes ≡ r
           → ((rounded : Rounded) → All (IsWhole tracks) (rounds_within most tracks rounded.after rounded.rest).0)
-          → All (IsWhole tracks) (rounds_by (λ rounded. rounds_within most tracks rounded.after rounded.rest) r).0
+          → All (IsWhole tracks) (rounds_by (round_size tracks at bytes)
+          (λ rounded. rounds_within most tracks rounded.after rounded.rest) r).0
       go (Ok None) is others = All-nil (IsWhole tracks)
       go (Ok (Some rounded)) is others = All-cons (IsWhole tracks) rounded.round
           (rounds_within most tracks rounded.after rounded.rest).0 (next_has tracks at bytes rounded is) (others rounded)

@@ -8,6 +8,7 @@ use Rattle.std.specs.Prelude.{sum_by}
 use Rattle.bridge_io.specs.{InOrder.{put_all, AreBegun}, Outside.Changes}
 use Rattle.bridge_jobs.specs.declared.frame.Frame.{Frame}
 use Rattle.bridge_courses.specs.{Courses.{Course, Makes, Reaches, Step, World, last_step}, Executions.{FailsTelling, Finishes, Works}}
+use Rattle.bridge_courses.specs.Courses.{TakesAtMost, TakesBytes, taken_at}
 use Rattle.bridge_courses.specs.{declared.ending.Ending.Ending, declared.status.Verdict.Verdict}
 use Rattle.bridge_report.specs.Following.{Followed, verdict_by}
 use Rattle.live_meaning.specs.Updates.{Terms}
@@ -84,9 +85,9 @@ module _ (form : Form) (terms : Terms) (output : OutputPlace) (input : List ℕ)
   telling before mid works = one_more before works.mid works.step mid.made works.reaches (works.made counts).0 (works.made counts).1
 
   wanting : (before mid at : World) (step : Step) (reaches : Reaches course before at step)
-      → (left : ((mid.files ≡ at.files) × Makes course 0 step.most at mid)
+      → (left : ((mid.files ≡ at.files) × Makes course 0 step.most at mid × TakesAtMost (taken_at reaches.n course) at.input mid.input)
       ⊎ ((AreBegun step.files at.files mid.files ⊎ Changes (put_all step.files) at.files mid.files)
-      × Makes course step.least step.most at mid))
+      × Makes course step.least step.most at mid × TakesBytes (taken_at reaches.n course) at.input mid.input))
       → MadeWanting left f reaches.n input before.made mid.made
   wanting before mid at step reaches (inl none) =
       some_more before at step mid.made reaches (none.1 counts).0 (none.1 counts).1

@@ -8,6 +8,7 @@ use Rattle.std.specs.{Prelude.{All, flat_map}, List.fold}
 use Rattle.bridge_io.specs.{InOrder.{put_all, AreBegun}, Outside.{Files, Changes}}
 use Rattle.bridge_courses.specs.{Courses.{Course, World, files_of, files_to}, Executions.status_by, declared.status.Status.Status}
 use Rattle.bridge_courses.specs.{declared.status.Verdict.Verdict, Laws.{ReadFaultLeavesSteps, ExecutionLeavesSteps, VerdictKeepsSteps}}
+use Rattle.bridge_courses.specs.Laws.{LeavesSteps as CourseLeavesSteps}
 use Rattle.live_meaning.specs.{Updates.{Terms, Update, Values, mpd_of}, Laws.{AcceptedAreAccepted, AcceptedNeverDrift, IsTyped}}
 use Rattle.live_meaning.specs.Laws.{accepted_of, with_accepted}
 use Rattle.laws_of_reloads.specs.Laws.{IsReadIfAny}
@@ -25,30 +26,42 @@ IsBegunOrPut fs before after = AreBegun fs before after ⊎ Changes (put_all fs)
 abbrev LeftBy : List (List ℕ × List ℕ) → (after before : Option Files) → Type 0
 LeftBy fs after before = (after ≡ before) ⊎ IsBegunOrPut fs before after
 
-put_so : (fs : List (List ℕ × List ℕ)) (first last : Files) (before after : Option Files) → before ≡ Some first → after ≡ Some last
+pub put_so : (fs : List (List ℕ × List ℕ)) (first last : Files) (before after : Option Files) → before ≡ Some first → after ≡ Some last
     → Changes (put_all fs) before after → Changes (put_all fs) (Some first) (Some last)
 put_so fs first last before after was is changes =
     subst (λ b. Changes (put_all fs) b (Some last)) was (subst (Changes (put_all fs) before) is changes)
 
 module _ (Holds : Held) (course : Course)
     (holds : (n : ℕ) (first last : Files) → Changes (put_all (files_to n course)) (Some first) (Some last) → Holds n first last) where
+  -- what is left of the steps, of files that are known
+  pub left_so : (before after : World) (first last : Files) → before.files ≡ Some first → after.files ≡ Some last
+      → (so : CourseLeavesSteps course before.files after.files)
+      → LeftBy so.step.files (Some last) (Some (put_all (files_to so.n course) first))
+  left_so before after first last was is so =
+      let mid : Files = put_all (files_to so.n course) first in
+      let done : so.mid ≡ Some mid = subst (λ files. Changes (put_all (files_to so.n course)) files so.mid) was so.done in
+      subst (λ last. LeftBy so.step.files last (Some mid)) is (subst (LeftBy so.step.files after.files) done so.left)
+
+  pub same_files : (fs : List (List ℕ × List ℕ)) (last mid : Files) → LeftBy fs (Some last) (Some mid)
+      → (last ≡ mid) ⊎ IsBegunOrPut fs (Some mid) (Some last)
+  same_files fs last mid (inl same) = inl (same_Some last mid same)
+  same_files fs last mid (inr more) = inr more
+
+  abbrev pub leaves_by : (before after : World) (first last : Files) → before.files ≡ Some first → after.files ≡ Some last
+      → CourseLeavesSteps course before.files after.files → LeavesSteps Holds course first last
+  leaves_by before after first last was is so = record {
+    n = so.n;
+    mid = put_all (files_to so.n course) first;
+    steps = record { done = refl; holds = holds so.n first (put_all (files_to so.n course) first) refl };
+    step = so.step;
+    next = so.next;
+    left = same_files so.step.files last (put_all (files_to so.n course) first) (left_so before after first last was is so);
+  }
+
   leaves_steps : ExecutionLeavesSteps → (end : Status) (before after : World) (first last : Files)
       → IsRunOver course end before after first last → LeavesSteps Holds course first last
   leaves_steps leaves end before after first last run =
-      let so = leaves course end before after run.run in
-      let mid : Files = put_all (files_to so.n course) first in
-      let done : so.mid ≡ Some mid = subst (λ files. Changes (put_all (files_to so.n course)) files so.mid) run.was so.done in
-      record {
-        n = so.n;
-        mid = mid;
-        steps = record { done = refl; holds = holds so.n first mid refl };
-        step = so.step;
-        next = so.next;
-        left = elim (subst (LeftBy so.step.files after.files) done so.left) [
-          | inl same ↦ inl (same_Some _ _ (sym run.is ∙ same))
-          | inr more ↦ inr (subst (IsBegunOrPut so.step.files (Some mid)) run.is more)
-        ];
-      }
+      leaves_by before after first last run.was run.is (leaves course end before after run.run)
 
   to_the_end : VerdictKeepsSteps → (n : ℕ) → length course.steps ≡ n → (v : Verdict) (before after : World) (first last : Files)
       → IsRunOver course (status_by v) before after first last → AreOfSteps Holds course n first last

@@ -6,6 +6,7 @@ use Rattle.bridge_jobs.specs.{Headers.header_of, declared.header.Header.Header, 
 use Rattle.bridge_jobs.specs.{declared.frame.FramePos.FramePos, declared.frame.FrameFault.FrameFault, Frames.{Framed, behind, body_of}}
 use Rattle.bridge_jobs.specs.Frames.{counted, frame_by_line, framed_as, framed_if, frames_of, frames_within, header_at, line_within}
 use Rattle.bridge_jobs.specs.Frames.{most_frames, most_header, next_frame, next_line, some_of, start, stream_by}
+use Rattle.bridge_jobs.specs.Frames.{frame_size}
 
 counted_one : (n : ℕ) (r : Result (Frame × Place × List ℕ) FrameFault) (framed : Framed) → counted n r ≡ Ok framed
     → framed.after.frames ≡ n + 1
@@ -50,7 +51,7 @@ StaysFew fuel at bytes = length (frames_within fuel at bytes).frames + at.frames
 few_by : (fuel : ℕ) (at : FramePos) (bytes : List ℕ) (r : Result (Option Framed) FrameFault) → at.frames ≤ most_frames
     → next_frame at bytes ≡ r
     → ((framed : Framed) → framed.after.frames ≤ most_frames → StaysFew fuel framed.after framed.rest)
-    → length (stream_by (λ framed. frames_within fuel framed.after framed.rest) r).frames + at.frames ≤ most_frames
+    → length (stream_by (frame_size at bytes) (λ framed. frames_within fuel framed.after framed.rest) r).frames + at.frames ≤ most_frames
 few_by fuel at bytes (Ok None) few is each = omega (arith, few)
 few_by fuel at bytes (Err e) few is each = omega (arith, few)
 few_by fuel at bytes (Ok (Some framed)) few is each =

@@ -29,3 +29,4 @@ mod TimedHistory
 mod TimedFollowing
 mod TimedRunsRead
 mod TimedReadings
+mod Unread

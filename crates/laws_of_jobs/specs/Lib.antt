@@ -12,3 +12,4 @@ pub mod Timed
 pub mod TimedRuns
 pub mod TimedFollowing
 pub mod TimedReadings
+pub mod Unread

@@ -4,8 +4,11 @@ ghost use Rattle.laws_of_jobs.specs.Ends.{FollowLeavesHistory};
 ghost use Rattle.laws_of_jobs.specs.Files.{FollowedFilesAreLawful, FollowedFilesAreOfTheHistory, FollowedFilesReload};
 ghost use Rattle.laws_of_jobs.specs.Frames.{FramesAreOfTheHistory};
 ghost use Rattle.laws_of_jobs.specs.Histories.{FollowedNeverDrift};
+ghost use Rattle.laws_of_jobs.specs.Unread.{FollowReadsNoFurther};
 
-use bridge_courses::{a_verdict_keeps_the_steps, an_execution_leaves_its_steps};
+use bridge_courses::{
+    a_verdict_keeps_the_steps, an_execution_leaves_its_steps, an_execution_reads_no_further,
+};
 use laws_of_playlists::read_trees_are_of_bytes;
 use laws_of_reloads::followed_texts_reload;
 use live_meaning::{accepted_never_drift, histories_go_on};
@@ -62,6 +65,15 @@ pub fn a_followed_execution_leaves_its_history()
     followed_files_are_of_the_history();
     an_execution_leaves_its_steps();
     a_verdict_keeps_the_steps();
+}
+
+/// However a run ends, it read of standard input the bytes of those first update frames, and at most those of the next one: nothing is
+/// read ahead of what is written. Where it ends by a failed read, and no read of a file failed, no frame is lost whose bytes are all read.
+pub fn a_followed_execution_reads_no_further()
+    ensures { FollowReadsNoFurther }
+{
+    followed_files_are_of_the_history();
+    an_execution_reads_no_further();
 }
 
 /// However a run ends, it made exactly the segments that those accepted update frames appended whose lines are reported,

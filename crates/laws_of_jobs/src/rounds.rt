@@ -3,9 +3,12 @@ ghost use Rattle.laws_of_jobs.specs.Forms.{FollowedRunsAreAlike};
 ghost use Rattle.laws_of_jobs.specs.LiveLists.{LastPlaylistsAreMeant};
 ghost use Rattle.laws_of_jobs.specs.RoundRuns.{FollowHlsLeavesHistory, FollowedRunsAreRead, RoundFilesAreOfTheHistory};
 ghost use Rattle.laws_of_jobs.specs.Rounds.{LeftIsOfTheHistory, ListedSegmentsStay};
+ghost use Rattle.laws_of_jobs.specs.Unread.{FollowHlsReadsNoFurther};
 
 use crate::{both_forms_mean_the_same, followed_mpds_are_read};
-use bridge_courses::{a_verdict_keeps_the_steps, an_execution_leaves_its_steps};
+use bridge_courses::{
+    a_verdict_keeps_the_steps, an_execution_leaves_its_steps, an_execution_reads_no_further,
+};
 use bridge_reach::the_mpd_is_of_the_accepted_rounds;
 use hls_follow::{last_playlists_are_listed, runs_go_on, segments_stay};
 use hls_media::what_is_read_is_bounded;
@@ -85,4 +88,13 @@ pub fn a_followed_hls_execution_leaves_its_history()
     followed_mpd_files_are_of_the_history();
     an_execution_leaves_its_steps();
     a_verdict_keeps_the_steps();
+}
+
+/// However a run ends, it read of standard input the bytes of those first snapshots, and at most those of the next one; and where it ends
+/// by a failed read, and no read of a file failed, no snapshot is lost whose bytes are all read.
+pub fn a_followed_hls_execution_reads_no_further()
+    ensures { FollowHlsReadsNoFurther }
+{
+    followed_mpd_files_are_of_the_history();
+    an_execution_reads_no_further();
 }

@@ -3,8 +3,11 @@
 ghost use Rattle.laws_of_jobs.specs.TimedFollowing.{TimedFilesAreOfTheHistory, TimedLeftIsOfTheHistory, TimedListedSegmentsStay};
 ghost use Rattle.laws_of_jobs.specs.TimedFollowing.{TimedRunLeavesHistory, TimedRunsListTheirPlaylists};
 ghost use Rattle.laws_of_jobs.specs.TimedReadings.{TimedRunsAreAlike, TimedRunsAreRead};
+ghost use Rattle.laws_of_jobs.specs.Unread.{TimedRunReadsNoFurther};
 
-use bridge_courses::{a_verdict_keeps_the_steps, an_execution_leaves_its_steps};
+use bridge_courses::{
+    a_verdict_keeps_the_steps, an_execution_leaves_its_steps, an_execution_reads_no_further,
+};
 use bridge_reach::the_timed_mpd_is_of_the_accepted_rounds;
 use fragment_times::offsets_are_one_time;
 use hls_follow::{
@@ -59,6 +62,15 @@ pub fn a_timed_execution_leaves_its_history()
     timed_mpd_files_are_of_the_history();
     an_execution_leaves_its_steps();
     a_verdict_keeps_the_steps();
+}
+
+/// However a run ends, it read of standard input the bytes of those first snapshots, and at most those of the next one; and where it ends
+/// by a failed read, and no read of a file failed, no snapshot is lost whose bytes are all read.
+pub fn a_timed_execution_reads_no_further()
+    ensures { TimedRunReadsNoFurther }
+{
+    timed_mpd_files_are_of_the_history();
+    an_execution_reads_no_further();
 }
 
 /// That MPD is read back in each form with its values, whatever is available at a time, and what it says of each run means the run's

@@ -8,7 +8,8 @@ use Rattle.bridge_core.specs.Dash.{files_of}
 
 pub returns : goal.returns
 returns g c =
-    let p = c.args.presentation.now in let text = manifest_text c.args.job.now.form p in let put = c.write_mpd.ensures in let told = c.in-Ok.ensures in
+    let p = c.args.presentation.now in let text = manifest_text c.args.job.now.form p in let put = c.write_mpd.ensures in
+    let told = c.in-Ok.ensures in
     let name = c.in-Ok.name in
     let before = g.F.Store.files c.args.store.now in let after = g.F.Store.files c.write_mpd.new.store in
     writes (files_of c.args.job.now p) (done_line p) true c.write_mpd.result c.written.result _ _

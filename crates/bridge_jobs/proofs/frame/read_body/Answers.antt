@@ -15,3 +15,11 @@ pub returns-clause-frame : goal.returns-clause-frame
 returns-clause-frame g c = λ bytes told.
     let read = rw c.length.ensures at (c.in_ok-body.ensures.piece bytes told) in
     (read.0, read.1, rw c.framed.ensures.frame (body_by c.args.place c.args.header.now bytes _ read.2))
+
+pub returns-in_err-body-clause-left : goal.returns-in_err-body-clause-left
+returns-in_err-body-clause-left g c = λ bytes told.
+    let fault = err_from_is_err_and c.from_residual.result c.from_residual.ensures.1 in
+    rw (fault.1, fault.2) (rw c.length.ensures at (c.in_err-body.ensures.left bytes told))
+
+pub returns-clause-left : goal.returns-clause-left
+returns-clause-left g c = λ bytes told. rw c.length.ensures at (c.in_ok-body.ensures.left bytes told)

@@ -1,5 +1,5 @@
-use Rattle.std.proofs.Common.{◌∙◌, [], ◌∷◌, arith, length-append}
-use Rattle.bridge_jobs.proofs.Lines.{line_byte, line_cut, line_full, line_last}
+use Rattle.std.proofs.{Common.{◌∙◌, [], ◌∷◌, arith, length-append}, lemmas.Result.err_from_is_err_and}
+use Rattle.bridge_jobs.proofs.Lines.{byte_fails, line_byte, line_cut, line_fails, line_full, line_last}
 use Rattle.bridge_jobs.proofs.input.read_line.Goals as goal
 
 pub returns-in_default-clause-bytes : goal.returns-in_default-clause-bytes
@@ -26,3 +26,16 @@ loop-input-preserved g c =
 
 pub returns-clause-bytes : goal.returns-clause-bytes
 returns-clause-bytes g c = line_full _ _ _ _ c.loop-input.invariant.so_far (omega arith)
+
+pub returns-in_err-byte-clause-fails : goal.returns-in_err-byte-clause-fails
+returns-in_err-byte-clause-fails g c =
+    let fault = err_from_is_err_and c.from_residual-in_err-byte.result c.from_residual-in_err-byte.ensures.1 in
+    rw (fault.1, fault.2) (line_fails c.args.most c.loop-input.line _ _ _ c.in_err-byte.field-0.0 c.loop-input.invariant.so_far
+    (omega arith) c.in_err-byte.ensures.fails)
+
+pub returns-in_err-push-clause-fails : goal.returns-in_err-push-clause-fails
+returns-in_err-push-clause-fails g c =
+    let byte = rw c.in-Some.is at c.in_ok-byte.ensures.byte in
+    let fault = err_from_is_err_and c.from_residual-in_err-push.result c.from_residual-in_err-push.ensures.1 in
+    rw (fault.1, fault.2) (byte_fails c.args.most c.in-Some.byte c.loop-input.line _ _ _ c.loop-input.invariant.so_far
+    (omega arith) byte)

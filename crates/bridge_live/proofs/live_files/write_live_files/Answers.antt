@@ -26,7 +26,8 @@ pub returns-then-accepted-eq1-clause-err : goal.returns-then-accepted-eq1-clause
 returns-then-accepted-eq1-clause-err g c = let s = c.args.session.now in let out = c.args.output.now in let files = g.F.Store.files in
     let first : s.common.accepted ≡ 1 = rw c.accepted.ensures at c.if-accepted-eq1.true in
     on_err_by c.write_the_master.result
-    (λ may. subst (λ fs. AreBegun fs (files c.args.store.now) (files c.write_the_master.new.store)) (sym (files_first out c.args.players.now s first))
+    (λ may. subst (λ fs. AreBegun fs (files c.args.store.now) (files c.write_the_master.new.store))
+    (sym (files_first out c.args.players.now s first))
     (begun_last (track_files out s) (master_file out.folder c.args.players.now s) (files c.args.store.now) (files c.write_tracks.new.store)
     (files c.write_the_master.new.store) c.in_ok-write_tracks.ensures.ok (rw (c.folder.ensures, c.first.ensures.first) at may)))
     c.write_the_master.ensures.err

@@ -13,7 +13,8 @@ returns-in-Ok-clause-runs g c =
     record { input = omega arith; reads = read.cause.never_falls; writes = omega (arith, read.writes); report = omega arith } in
     record {
       work = read_worked (λ all. rounds_of c.args.job.now input) (rounds_led c.args.job.now input) (g.F.Store.files c.args.store.now)
-          c.args.place.now c.follow_master.result c.in-Ok.master _ _ _ read.read (record { files = read.files; report = refl; made = refl })
+          c.args.place.now c.follow_master.result c.in-Ok.master _ _ _ read.read
+          (record { files = read.files; report = refl; made = refl }) refl
           falls (λ all is. ends.work);
       never_falls = falls_then _ _ _ falls ends.never_falls;
       told = ends.told;
@@ -32,7 +33,7 @@ returns-in-Err-clause-runs g c =
     record { input = omega arith; reads = read.cause.never_falls; writes = omega (arith, read.writes); report = omega arith } in
     record {
       work = halt_worked (λ all. rounds_of c.args.job.now input) (rounds_led c.args.job.now input) (g.F.Store.files c.args.store.now)
-          c.args.place.now c.halted.result _ _ (record { files = read.files; report = refl; made = refl }) falls
+          c.args.place.now c.halted.result _ _ (record { files = read.files; report = refl; made = refl }) refl falls
           c.in-Err.halt c.halted.ensures (λ e. read.cause.rose (ap Err e)) read.read;
       never_falls = falls;
       told = none_grown _ _ refl;

@@ -14,7 +14,7 @@ returns-in-Ok-clause-runs g c =
     record {
       work = read_worked (λ all. course_of c.args.job.now c.args.place all input) (timed_led c.args.job.now c.args.place input)
           (g.F.Store.files c.args.store.now) c.args.place c.time_master.result c.in-Ok.master _ _ _ read.read
-          (record { files = read.files; report = refl; made = refl }) falls
+          (record { files = read.files; report = refl; made = refl }) refl falls
           (work_by_files c.args.job.now c.args.place c.in-Ok.master input c.time_master.result _ _ _ _ read.files ends.work);
       never_falls = falls_then _ _ _ falls ends.never_falls;
       told = ends.told;
@@ -34,7 +34,7 @@ returns-in-Err-clause-runs g c =
     record {
       work = halt_worked (λ all. course_of c.args.job.now c.args.place all input) (timed_led c.args.job.now c.args.place input)
           (g.F.Store.files c.args.store.now) c.args.place c.halted.result _ _
-          (record { files = read.files; report = refl; made = refl }) falls
+          (record { files = read.files; report = refl; made = refl }) refl falls
           c.in-Err.halt c.halted.ensures (λ e. read.cause.rose (ap Err e)) read.read;
       never_falls = falls;
       told = none_grown _ _ refl;

@@ -16,7 +16,8 @@ returns-in-Ok-indexed_at g c =
     let job = c.args.job.now in let place = c.in-Ok.place in let read = c.in-Ok-indexed_at.ensures.reads in
     at_place (store_place_of job.base job.mpd) place (index_at job (g.F.Store.files c.args.store.now)) c.write.result _ _ c.in-Ok.ensures
     (then_ends (outcome_of job) (writing (files_of (output_of_job job) job.digits) line_of) (presented job place) c.write.result _ _
-    (c.in-Ok-indexed_at.ready.presentation, c.in-Ok-indexed_at.ready.players) _ read.read read.cause.never_falls read.files read.writes c.write.ensures)
+    (c.in-Ok-indexed_at.ready.presentation, c.in-Ok-indexed_at.ready.players) _ read.read read.cause.never_falls read.files read.writes
+    c.write.ensures)
 
 pub returns-in-Ok : goal.returns-in-Ok
 unfolding index_outcome

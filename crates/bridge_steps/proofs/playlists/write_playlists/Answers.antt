@@ -6,7 +6,8 @@ use Rattle.bridge_steps.proofs.playlists.write_playlists.Goals as goal
 pub returns-in_err-write_tracks-clause-err : goal.returns-in_err-write_tracks-clause-err
 returns-in_err-write_tracks-clause-err g c = let ready = c.args.ready.now in let out = c.args.output.now in
     on_err c.from_residual.result
-    (begun_more (track_files out ready.players ready.digits ready.presentation) (master_file out.folder ready.players ready.presentation ∷ [])
+    (begun_more (track_files out ready.players ready.digits ready.presentation)
+    (master_file out.folder ready.players ready.presentation ∷ [])
     (g.F.Store.files c.args.store.now) (g.F.Store.files c.write_tracks.new.store) c.in_err-write_tracks.ensures.err)
 
 pub returns-clause-ok : goal.returns-clause-ok

@@ -10,9 +10,11 @@ returns-in_err-write_track-clause-err g c =
     let files = g.F.Store.files in
     let within : l.track < length p.tracks = omega (arith, ap length c.tracks.ensures) in
     on_err c.from_residual.result
-    (begun_at (track_files out ready.players ready.digits p) l.track (track_file out ready.players ready.digits p l.track) (files c.args.store.now) (files l.store)
+    (begun_at (track_files out ready.players ready.digits p) l.track (track_file out ready.players ready.digits p l.track)
+    (files c.args.store.now) (files l.store)
     (files c.write_track.new.store)
-    (track_at (track_file out ready.players ready.digits p) (length p.tracks) l.track within) l.invariant.put c.in_err-write_track.ensures.err)
+    (track_at (track_file out ready.players ready.digits p) (length p.tracks) l.track within) l.invariant.put
+    c.in_err-write_track.ensures.err)
 
 pub loop-track-preserved : goal.loop-track-preserved
 loop-track-preserved g c =
@@ -21,9 +23,11 @@ loop-track-preserved g c =
     let within : l.track < length p.tracks = omega (arith, ap length c.tracks.ensures) in
     record {
       put =
-          put_next (track_files out ready.players ready.digits p) l.track (track_file out ready.players ready.digits p l.track) (files c.args.store.now)
+          put_next (track_files out ready.players ready.digits p) l.track (track_file out ready.players ready.digits p l.track)
+          (files c.args.store.now)
           (files l.store) (files c.write_track.new.store)
-          (track_at (track_file out ready.players ready.digits p) (length p.tracks) l.track within) l.invariant.put c.in_ok-write_track.ensures.ok;
+          (track_at (track_file out ready.players ready.digits p) (length p.tracks) l.track within) l.invariant.put
+          c.in_ok-write_track.ensures.ok;
       never_falls = omega (arith, l.invariant.never_falls, c.in_ok-write_track.ensures.cause.never_falls);
       reads = c.in_ok-write_track.ensures.reads ∙ l.invariant.reads;
     }

@@ -55,7 +55,8 @@ returns-in-Ok-tell_refusal-clause-done g c = λ files seen.
 pub returns-in-Ok-tell_refusal-clause-next : goal.returns-in-Ok-tell_refusal-clause-next
 returns-in-Ok-tell_refusal-clause-next g c = λ files seen.
     let told = g.T.Follow.told c.args.followed.now files in let s = c.args.live.now in let why = c.in-Err-Refused.why in
-    let is : told.refusal s c.args.frame.now ≡ Some why = (rw c.in-Err-Refused.field-0-is at c.in-Err-Refused.ensures.refused) files seen in (
+    let is : told.refusal s c.args.frame.now ≡ Some why =
+    (rw c.in-Err-Refused.field-0-is at c.in-Err-Refused.ensures.refused) files seen in (
       left_refused told s c.args.index c.args.frame.now c.accept.new.live why is c.in-Err-Refused.ensures.same,
       no_more told s c.args.index c.args.frame.now c.args.accepted why is,
     )

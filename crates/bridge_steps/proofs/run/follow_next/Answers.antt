@@ -3,15 +3,17 @@ use Rattle.std.proofs.Common.{◌≡◌, Err, Some, None, refl, ap, ◌∙◌, a
 use Rattle.bridge_steps.specs.{Follow.world_of, Streams.with_first}
 use Rattle.bridge_report.specs.Following.{step_of}
 use Rattle.bridge_steps.proofs.{Caused.{broken_caused, caused_by, ended_caused}, Grown.{none_grown}}
-use Rattle.bridge_steps.proofs.Rest.{ended, broken, files_after, next_leads, seen_after, stopped}
+use Rattle.bridge_steps.proofs.Rest.{ended, broken, files_after, next_leads, seen_after, stopped, taken_of}
 
 pub returns-in-Ok-clause-next : goal.returns-in-Ok-clause-next
 returns-in-Ok-clause-next g c = λ bytes remaining files seen.
     let run = c.args.run.now in let x = c.in-Ok-Some.frame in let at = c.next.new.at in
     let t = g.T.Follow in let followed = c.args.followed.now in let stream = t.stream followed in
     let read = c.in-Ok-Some.ensures.frame bytes remaining in
-    let is : stream run.at bytes ≡ with_first (Some x) (stream at read.0) = read.2 ∙ ap (λ frame. with_first frame (stream at read.0))
-    c.in-Ok-Some.field-0-is in
+    let is : stream run.at bytes ≡ with_first (Some x) read.2 (stream at read.0) = read.4
+    ∙ ap (λ frame. with_first frame read.2 (stream at read.0)) c.in-Ok-Some.field-0-is in
+    let took = taken_of read.2 bytes (g.I.Source.remaining c.args.input.now) (g.I.Source.remaining c.next.new.input) remaining
+    (read.1 ∙ ap Some read.3) in
     let counts = rw c.in-Ok-Some.field-0-is at c.in-Ok-Some.ensures.counts in
     let step = c.in-Ok.ensures.done files seen in let next = c.in-Ok.ensures.next files seen in
     let written = (step_of (t.told followed files) run.live run.at.frames x).files in (
@@ -20,11 +22,11 @@ returns-in-Ok-clause-next g c = λ bytes remaining files seen.
       files_after (t.reads followed) written files,
       seen_after (t.reads followed) written _ _ files seen step.files,
       next_leads (t.reads followed) (t.told followed) stream files run
-          (record { at = at; live = c.follow_frame.new.live; accepted = c.in-Ok.accepted }) bytes read.0 x
+          (record { at = at; live = c.follow_frame.new.live; accepted = c.in-Ok.accepted }) bytes read.0 x read.2
           (world_of g.I.Source g.F.Store g.P.Sink c.args.input.now c.args.store.now c.args.report.now c.args.steps.now)
           (world_of g.I.Source g.F.Store g.P.Sink c.next.new.input c.follow_frame.new.store c.follow_frame.new.report
           c.follow_frame.new.steps)
-          is counts next.0 next.1
+          is took counts next.0 next.1
           (record { files = step.files; report = step.report; least = step.least; most = step.most })
           (record {
             input = c.in-Ok-Some.ensures.cause.never_falls;
@@ -39,15 +41,17 @@ returns-in-Ok-Some-clause-next g c = λ bytes remaining files seen.
     let run = c.args.run.now in let x = c.in-Ok-Some.frame in let at = c.next.new.at in
     let t = g.T.Follow in let followed = c.args.followed.now in let stream = t.stream followed in
     let read = c.in-Ok-Some.ensures.frame bytes remaining in
-    let is : stream run.at bytes ≡ with_first (Some x) (stream at read.0) = read.2 ∙ ap (λ frame. with_first frame (stream at read.0))
-    c.in-Ok-Some.field-0-is in
+    let is : stream run.at bytes ≡ with_first (Some x) read.2 (stream at read.0) = read.4
+    ∙ ap (λ frame. with_first frame read.2 (stream at read.0)) c.in-Ok-Some.field-0-is in
+    let took = taken_of read.2 bytes (g.I.Source.remaining c.args.input.now) (g.I.Source.remaining c.next.new.input) remaining
+    (read.1 ∙ ap Some read.3) in
     record {
-      works = stopped (t.reads followed) (t.told followed) files run.live run.at.frames run.accepted x (stream run.at bytes)
+      works = stopped (t.reads followed) (t.told followed) files run.live run.at.frames run.accepted x read.2 (stream run.at bytes)
           (stream at read.0)
           (world_of g.I.Source g.F.Store g.P.Sink c.args.input.now c.args.store.now c.args.report.now c.args.steps.now)
           (world_of g.I.Source g.F.Store g.P.Sink c.next.new.input c.follow_frame.new.store c.follow_frame.new.report
           c.follow_frame.new.steps)
-          is c.in-Err-follow_frame.told (c.in-Err-follow_frame.ensures.stops files seen);
+          is took c.in-Err-follow_frame.told (c.in-Err-follow_frame.ensures.stops files seen);
       never_falls = record {
         input = c.in-Ok-Some.ensures.cause.never_falls;
         reads = c.in-Err-follow_frame.ensures.counts.0;
@@ -61,11 +65,13 @@ returns-in-Ok-None-clause-next g c = λ bytes remaining files seen.
     let run = c.args.run.now in
     let t = g.T.Follow in let followed = c.args.followed.now in let stream = t.stream followed in
     let read = c.in-Ok-None.ensures.frame bytes remaining in
-    let is : stream run.at bytes ≡ with_first None (stream c.next.new.at read.0) = read.2 ∙ ap (λ frame. with_first frame (stream
-    c.next.new.at read.0)) c.in-Ok-None.field-0-is in
+    let is : stream run.at bytes ≡ with_first None read.2 (stream c.next.new.at read.0) = read.4
+    ∙ ap (λ frame. with_first frame read.2 (stream c.next.new.at read.0)) c.in-Ok-None.field-0-is in
+    let took = taken_of read.2 bytes (g.I.Source.remaining c.args.input.now) (g.I.Source.remaining c.next.new.input) remaining
+    (read.1 ∙ ap Some read.3) in
     record {
       works = ended (t.reads followed) (t.told followed) files run.live run.at.frames run.accepted (stream run.at bytes)
-          c.stream_done.result _ _ is c.stream_done.ensures (record { files = refl; report = refl; made = refl });
+          c.stream_done.result _ _ read.2 is c.stream_done.ensures took (record { files = refl; report = refl; made = refl });
       never_falls = record {
         input = c.in-Ok-None.ensures.cause.never_falls;
         reads = omega arith;
@@ -80,13 +86,15 @@ returns-clause-next g c = λ bytes remaining files seen.
     let t = g.T.Follow in let followed = c.args.followed.now in let stream = t.stream followed in
     record {
       works = broken (t.reads followed) (t.told followed) files run.live run.at.frames run.accepted (stream run.at bytes)
-          c.broken.result _ _ c.in-Err.fault (c.in-Err.ensures.frame bytes remaining) c.broken.ensures
+          c.broken.result _ _ c.in-Err.fault bytes remaining (c.in-Err.ensures.frame bytes remaining) c.broken.ensures
           (λ is. c.in-Err.ensures.cause.rose (ap Err is)) (record { files = refl; report = refl; made = refl });
       never_falls = record { input = c.in-Err.ensures.cause.never_falls; reads = omega arith; writes = omega arith; report = omega arith };
     }
 
 pub returns-in-Ok-Some-clause-caused : goal.returns-in-Ok-Some-clause-caused
-returns-in-Ok-Some-clause-caused g c = c.in-Err-follow_frame.ensures.caused _ _
+returns-in-Ok-Some-clause-caused g c =
+    let s = g.I.Source in let before = c.args.input.now in let after = c.next.new.input in
+    c.in-Err-follow_frame.ensures.caused (s.remaining before, s.faults before) (s.remaining after, s.faults after)
 
 pub returns-in-Ok-None-clause-caused : goal.returns-in-Ok-None-clause-caused
 returns-in-Ok-None-clause-caused g c = caused_by _ _ _ _ (ended_caused _ _ _ _ c.stream_done.ensures)

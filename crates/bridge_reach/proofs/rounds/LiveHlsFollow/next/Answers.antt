@@ -6,6 +6,7 @@ pub returns-clause-frame : goal.returns-clause-frame
 returns-clause-frame g c =
     rounds_read c.rounds_follow.ensures (length c.args.self.now.urls) c.args.at.now c.read_round.new.at c.read_round.result
     (g.I.Source.remaining c.args.input.now) (g.I.Source.remaining c.read_round.new.input) (rw c.len.ensures at c.read_round.ensures.round)
+    (rw c.len.ensures at c.read_round.ensures.left)
 
 pub returns-clause-read : goal.returns-clause-read
 returns-clause-read g c =
