@@ -77,6 +77,13 @@ def under(name, periods, tracks, bases, inside):
         f'<Representation id="{k}" bandwidth="1"/>' for k in range(tracks)) + "</AdaptationSet></Period>"
     return mpd(name, [url[0], *[period] * periods])
 
+def turns(name, media, initialization="i"):
+    """200 sets of a Period, of which every other one has a template of its own."""
+    own = template("x$Number$", "y")
+    return mpd(name, ['<Period duration="PT1S">', template(media, initialization), *(
+        f'<AdaptationSet mimeType="video/mp4">{own if k % 2 else ""}<Representation id="{k}" bandwidth="1"/></AdaptationSet>'
+        for k in range(200)), "</Period>"])
+
 UP = "a/../"
 # Each as a function of its size in quarters.
 long = [
@@ -100,6 +107,10 @@ long = [
      "7.5 MB of it behind a number"),
     ("hls", lambda k: under("media_tabs.mpd", 1, 200, ("", "", ""), template("&#9;" * (375_000 * k) + "$RepresentationID$/$Number$")), BASE,
      "1,500,000 tabs in a template that 200 Representations share"),
+    ("hls", lambda k: turns("turns_up.mpd", UP * (375_000 * k) + "$Number$"), BASE,
+     "7.5 MB of `a/../` in the template of a Period that every other one of 200 sets overrides"),
+    ("hls", lambda k: turns("turns_init.mpd", "$Number$", UP * (375_000 * k) + "i"), BASE,
+     "7.5 MB of it in `initialization` there"),
     ("hls", lambda k: under("levels.mpd", 249 * k - 1, 190, (UP * 400, UP * 74, UP * 74), template("$Number$")), BASE,
      "995 Periods of 190 Representations, below BaseURLs at three levels"),
     ("hls", lambda k: named("tabs.mpd", "&#9;" * (19_750 * k) + "$Number$"), BASE, "79,000 tabs before a number, 100,000 segments"),

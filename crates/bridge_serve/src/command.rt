@@ -10,7 +10,7 @@ pub const USAGE: &str =
     "usage: bridge_serve --base=<url> [--index=yes] [--now=<instant>] [--cache-control=<value>]";
 
 /// What `--version` prints.
-pub const VERSION: &str = "bridge_serve 1.5.3";
+pub const VERSION: &str = "bridge_serve 1.5.4";
 
 /// What `--help` prints.
 pub const HELP: &str =
