@@ -1,8 +1,8 @@
 #!/usr/bin/env bash
 # outside.sh: tries the built program on the real system as no table does: each exit status, words that are no text, standard streams that
 # are closed or fail, files that may not be read or find no room, inputs that are replaced by rename while they are read, outputs that are
-# no files, a folder that vanishes under `follow`, and a program's name that is no text. BRIDGE names the program; otherwise
-# crates/bridge/out/bridge. It ends with 0 where all is as docs/DECISIONS.md says.
+# no files, a folder that vanishes under `follow`, a program's name that is no text, and how far updates are read before they are
+# published. BRIDGE names the program; otherwise crates/bridge/out/bridge. It ends with 0 where all is as docs/DECISIONS.md says.
 set -u
 here=$(cd "$(dirname "$0")/.." && pwd)
 bridge=${BRIDGE:-$here/crates/bridge/out/bridge}
@@ -118,5 +118,35 @@ got = subprocess.run([b"\xff\xfe", "show", "vod.mpd", "--base=https://h.example/
 good = got.returncode == 0 and got.stdout.startswith(b"mpd ")
 print("ok   a name that is no text" if good else f"BAD  a name that is no text: {got.returncode} {got.stdout[:60]}")
 sys.exit(not good)
+PY
+
+# An update is published before the next one is sent, also where the run is killed behind it; and of standard input no byte is read behind a
+# header that is rejected.
+python3 - "$bridge" <<'PY' || failed=1
+import os, subprocess, sys, time
+command = [sys.argv[1], "follow", "m.mpd", "--base=https://h.example/", "--out=ahead"]
+mpd = (b'<MPD xmlns="urn:mpeg:dash:schema:mpd:2011" type="dynamic" availabilityStartTime="2024-01-01T00:00:00Z" timeShiftBufferDepth="PT20S">'
+       b'<Period id="p" start="PT0S"><AdaptationSet mimeType="video/mp4"><SegmentTemplate duration="2" initialization="i" media="$Number$"/>'
+       b'<Representation id="0" bandwidth="1"/></AdaptationSet></Period></MPD>')
+def update(seconds):
+    return b"mpd 2024-01-01T00:10:%02dZ %d\n" % (seconds, len(mpd)) + mpd
+def last():
+    return open("ahead/t0.m3u8").read().split("\n")[-2]
+run = subprocess.Popen(command, stdin=subprocess.PIPE, stdout=subprocess.PIPE)
+published = []
+for seconds in (0, 2, 4):
+    run.stdin.write(update(seconds)); run.stdin.flush(); run.stdout.readline()
+    published.append(last())
+run.kill(); run.wait()
+good = published == ["https://h.example/%d" % n for n in (300, 301, 302)] and last() == published[-1]
+print("ok   published before the next update" if good else f"BAD  published before the next update: {published} {last()}")
+before = update(0) + b"mpd nonsense 5\n"
+open("updates", "wb").write(before + b"hello" + update(2))
+with open("updates", "rb", buffering=0) as updates:
+    answer = subprocess.run(command, stdin=updates, capture_output=True)
+    read = updates.tell()
+exact = answer.returncode == 1 and read == len(before)
+print("ok   nothing read ahead" if exact else f"BAD  nothing read ahead: {read} of {len(before)}, {answer.stdout[-60:]}")
+sys.exit(not (good and exact))
 PY
 exit $failed
